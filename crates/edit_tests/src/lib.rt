@@ -2,20 +2,10 @@
 #![tactic(auto)]
 
 #[cfg(test)]
-mod checks;
-#[cfg(test)]
-mod collapses;
-#[cfg(test)]
-mod flips;
+mod edits;
 #[cfg(test)]
 mod limits;
 #[cfg(test)]
 mod meshes;
 #[cfg(test)]
 mod passes;
-#[cfg(test)]
-mod pinches;
-#[cfg(test)]
-mod splits;
-#[cfg(test)]
-mod zips;

@@ -1,43 +1,22 @@
 //! Edits of a mesh at its limits.
-ghost use Rattle.std.specs.Prelude.{IfOk};
-ghost use Rattle.mesh_base.specs.Placements.{IsClearMesh};
-ghost use Rattle.mesh_base.specs.Sides.{IsClosed};
-
-use crate::meshes::{FLAT, FLAT_FACES, assert_same, counts, has_faces, lists_at, point, reason_of};
-use edit_base::Why;
-use edit_flip::flip;
-use edit_split::split;
-use grid_base::{ID_MAX, NoMemory};
-use mesh_base::{Scale, Surface, VertexId};
-use mesh_plain::{PlainMesh, shape};
-use pair_scan::first_meeting;
+use crate::meshes::{
+    FLAT, FLAT_FACES, assert_same, counts, has_faces, lists_at, mesh_of, reason_of,
+};
+use edit_any::edit;
+use edit_base::{Asked, Why};
+use grid_base::{NoMemory, Point};
+use mesh_base::{MeshLists, VertexId};
 use std::alloc::Global;
 use std::process::Abort;
 use std::test::Fail;
 
-// The flat double pyramid, with as many vertices beside it as make this many, and with these next ids.
-fn flat_mesh(
-    alloc: Global,
-    vertices: u32,
-    next: (u32, u32),
-    rt: &impl Abort,
-) -> Result<PlainMesh, NoMemory>
-    ensures closed { IfOk result (λ s. IsClosed (⟦<PlainMesh as Surface>⟧.mesh s)) }
-    ensures clear { IfOk result (λ s. IsClearMesh (⟦<PlainMesh as Surface>⟧.mesh s)) }
-{
+// The flat double pyramid, with as many vertices beside it as make this many.
+fn flat(alloc: Global, vertices: u32, rt: &impl Abort) -> Result<MeshLists, NoMemory> {
     let mut lists = lists_at(alloc, &FLAT, &FLAT_FACES, rt)?;
     for _ in 5..vertices {
-        lists.points.push(point([0, 0, 0], rt))?;
+        lists.points.push(Point { x: 0, y: 0, z: 0 })?;
     }
-    let shaped = shape(alloc, Scale::Standard, &lists);
-    assert!(rt; shaped.is_ok());
-    let (next_vertex, next_face) = next;
-    assert!(rt; lists.points.len() < next_vertex as usize && next_vertex <= ID_MAX + 1);
-    assert!(rt; lists.faces.len() < next_face as usize && next_face <= ID_MAX + 1);
-    let mesh = PlainMesh::of_numbered(alloc, Scale::Standard, &lists, next_vertex, next_face)?;
-    let found = first_meeting(alloc, &mesh)?;
-    assert!(rt; found.is_none());
-    Ok(mesh)
+    Ok(lists)
 }
 
 // How many vertices there are, the next ids, and whether a split or a flip is too much: both take one vertex more for a while, with
@@ -63,48 +42,45 @@ const LEFT: [(u32, [u32; 3]); 6] = [
     (6, [1, 3, 5]),
 ];
 
-// What an edit told and left: why it is refused, the counts before it and after it, whether the faces are as they were, and whether
-// there is no vertex of the id that came next.
-type Told = (Option<Why>, [[u32; 4]; 2], bool, bool);
+// The edits that need that much.
+const BOTH: [Asked; 2] = [
+    Asked::Split {
+        a: VertexId(1),
+        b: VertexId(2),
+    },
+    Asked::Flip {
+        a: VertexId(1),
+        b: VertexId(2),
+    },
+];
 
-fn flipped(
-    alloc: Global,
-    vertices: u32,
-    next: (u32, u32),
+// A full mesh refuses the edit and is left as it was, and another is not.
+fn assert_limit(
     rt: &impl Abort,
-) -> Result<Told, NoMemory> {
-    let mut mesh = flat_mesh(alloc, vertices, next, rt)?;
+    alloc: Global,
+    what: Asked,
+    (vertices, next, is_full): (u32, (u32, u32), bool),
+) -> Result<(), NoMemory> {
+    let lists = flat(alloc, vertices, rt)?;
+    let mut mesh = mesh_of(alloc, &lists, next.0, next.1, rt)?;
     let before = counts(&mesh);
-    let why = reason_of(&flip(alloc, &mut mesh, VertexId(1), VertexId(2), 6)?);
-    let none = mesh.point(VertexId(next.0)).is_none();
-    Ok((why, [before, counts(&mesh)], has_faces(&mesh, &LEFT), none))
-}
-
-fn cut(alloc: Global, vertices: u32, next: (u32, u32), rt: &impl Abort) -> Result<Told, NoMemory> {
-    let mut mesh = flat_mesh(alloc, vertices, next, rt)?;
-    let before = counts(&mesh);
-    let why = reason_of(&split(alloc, &mut mesh, VertexId(1), VertexId(2), 6)?);
-    let none = mesh.point(VertexId(next.0)).is_none();
-    Ok((why, [before, counts(&mesh)], has_faces(&mesh, &LEFT), none))
-}
-
-// A full mesh is left as it was, and another is not.
-fn assert_told(rt: &impl Abort, told: &Told, before: [u32; 4], is_full: bool) {
-    let (why, [first, last], same_faces, _) = told;
-    assert_same(rt, why, &if is_full { Some(Why::Full) } else { None });
-    assert_same(rt, first, &before);
-    assert_same(rt, &[*same_faces, first == last], &[is_full, is_full]);
+    let why = reason_of(&edit(alloc, &mut mesh, 6, what)?);
+    let same = before == counts(&mesh) && has_faces(&mesh, &LEFT);
+    let wanted = if is_full { Some(Why::Full) } else { None };
+    assert_same(
+        rt,
+        &(before, why, same),
+        &([vertices, 6, next.0, next.1], wanted, is_full),
+    );
+    Ok(())
 }
 
 #[test]
 fn a_full_mesh_is_not_split_or_flipped(rt: HostRuntime) -> Result<(), Fail> {
-    for (vertices, next, is_full) in &CASES {
-        let before = [*vertices, 6, next.0, next.1];
-        let told = flipped(rt.alloc(), *vertices, *next, &rt)?;
-        assert_told(&rt, &told, before, *is_full);
-        let told = cut(rt.alloc(), *vertices, *next, &rt)?;
-        assert_told(&rt, &told, before, *is_full);
-        assert!(rt; told.3 == *is_full);
+    for case in &CASES {
+        for what in &BOTH {
+            assert_limit(&rt, rt.alloc(), *what, *case)?;
+        }
     }
     Ok(())
 }

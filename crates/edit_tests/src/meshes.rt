@@ -4,7 +4,7 @@ ghost use Rattle.mesh_base.specs.Placements.{IsClearMesh};
 ghost use Rattle.mesh_base.specs.Sides.{IsClosed};
 
 use edit_base::{Edit, Why};
-use grid_base::{NoMemory, Point};
+use grid_base::{ID_MAX, NoMemory, Point};
 use mesh_base::{FaceId, MeshLists, Points, Scale, Surface, Triangles, VertexId};
 use mesh_plain::{PlainMesh, shape};
 use pair_scan::first_meeting;
@@ -15,18 +15,6 @@ use std::process::Abort;
 pub(crate) const TETRAHEDRON: [[i32; 3]; 4] = [[0, 0, 0], [4, 0, 0], [0, 4, 0], [0, 0, 4]];
 
 pub(crate) const TETRAHEDRON_FACES: [[u32; 3]; 4] = [[1, 3, 2], [1, 2, 4], [2, 3, 4], [1, 4, 3]];
-
-// The faces of two tetrahedra, with the vertices 1 to 4 and 5 to 8.
-pub(crate) const TWO_TETRAHEDRA: [[u32; 3]; 8] = [
-    [1, 3, 2],
-    [1, 2, 4],
-    [2, 3, 4],
-    [1, 4, 3],
-    [5, 7, 6],
-    [5, 6, 8],
-    [6, 7, 8],
-    [5, 8, 7],
-];
 
 // A flat double pyramid over the triangle 1 2 3, in which 4 and 5 stand near the edge 1 2.
 pub(crate) const FLAT: [[i32; 3]; 5] = [
@@ -46,42 +34,17 @@ pub(crate) const FLAT_FACES: [[u32; 3]; 6] = [
     [1, 3, 5],
 ];
 
-// Two tetrahedra with the edge 1 2 in common, one where y and z are 0 or more and the other where they are 0 or less; and a third
-// far from them.
-pub(crate) const JOINED: [[i32; 3]; 10] = [
-    [0, 0, 0],
-    [8, 0, 0],
-    [0, 8, 0],
-    [0, 0, 8],
-    [0, -8, 0],
-    [0, 0, -8],
-    [50, 0, 0],
-    [58, 0, 0],
-    [50, 8, 0],
-    [50, 0, 8],
-];
-
-pub(crate) const JOINED_FACES: [[u32; 3]; 12] = [
-    [1, 3, 2],
-    [1, 2, 4],
-    [2, 3, 4],
-    [1, 4, 3],
-    [1, 5, 2],
-    [1, 2, 6],
-    [2, 5, 6],
-    [1, 6, 5],
-    [7, 9, 8],
-    [7, 8, 10],
-    [8, 9, 10],
-    [7, 10, 9],
-];
-
 // Ends the test where what is found is not what is wanted. One call costs the prover less than an assertion in its place.
 pub(crate) fn assert_same<T: PartialEq + Debug>(rt: &impl Abort, found: &T, wanted: &T) {
     assert_eq!(rt; found, wanted);
 }
 
-pub(crate) fn point(p: [i32; 3], rt: &impl Abort) -> Point {
+// The same of bytes.
+pub(crate) fn assert_bytes(rt: &impl Abort, found: &[u8], wanted: &[u8]) {
+    assert_eq!(rt; found, wanted);
+}
+
+fn point(p: [i32; 3], rt: &impl Abort) -> Point {
     Point::new(p[0], p[1], p[2]).expect(rt, "a point in the box")
 }
 
@@ -104,32 +67,22 @@ pub(crate) fn lists_at(
     Ok(lists)
 }
 
-// The mesh of these lists, which may meet itself.
-pub(crate) fn any_mesh_at(
+// The mesh of these lists, which is clear, with these next ids.
+pub(crate) fn mesh_of(
     alloc: Global,
-    points: &[[i32; 3]],
-    faces: &[[u32; 3]],
-    rt: &impl Abort,
-) -> Result<PlainMesh, NoMemory>
-    ensures { IfOk result (λ s. IsClosed (⟦<PlainMesh as Surface>⟧.mesh s)) }
-{
-    let lists = lists_at(alloc, points, faces, rt)?;
-    let shaped = shape(alloc, Scale::Standard, &lists);
-    assert!(rt; shaped.is_ok());
-    PlainMesh::of(alloc, Scale::Standard, &lists)
-}
-
-// The mesh of these lists, which is clear.
-pub(crate) fn mesh_at(
-    alloc: Global,
-    points: &[[i32; 3]],
-    faces: &[[u32; 3]],
+    lists: &MeshLists,
+    next_vertex: u32,
+    next_face: u32,
     rt: &impl Abort,
 ) -> Result<PlainMesh, NoMemory>
     ensures closed { IfOk result (λ s. IsClosed (⟦<PlainMesh as Surface>⟧.mesh s)) }
     ensures clear { IfOk result (λ s. IsClearMesh (⟦<PlainMesh as Surface>⟧.mesh s)) }
 {
-    let mesh = any_mesh_at(alloc, points, faces, rt)?;
+    let shaped = shape(alloc, Scale::Standard, lists);
+    assert!(rt; shaped.is_ok());
+    assert!(rt; lists.points.len() < next_vertex as usize && next_vertex <= ID_MAX + 1);
+    assert!(rt; lists.faces.len() < next_face as usize && next_face <= ID_MAX + 1);
+    let mesh = PlainMesh::of_numbered(alloc, Scale::Standard, lists, next_vertex, next_face)?;
     let found = first_meeting(alloc, &mesh)?;
     assert!(rt; found.is_none());
     Ok(mesh)

@@ -101,14 +101,6 @@ const MOVED: [Act; 8] = [
     Act::Find(THERE, &[]),
 ];
 
-#[test]
-fn extents_that_touch_overlap(rt: HostRuntime) -> Result<(), Fail> {
-    for acts in [TOUCH.as_slice(), &BELOW_ZERO, &MOVED] {
-        perform_all(&rt, rt.alloc(), 10, acts)?;
-    }
-    Ok(())
-}
-
 // The greatest coordinate of a point.
 const M: i64 = BOX as i64;
 
@@ -128,14 +120,6 @@ const CORNERS: [Act; 7] = [
     Act::Find(LEAST, &[0, 1]),
 ];
 
-#[test]
-fn corners_of_the_whole_range_are_found(rt: HostRuntime) -> Result<(), Fail> {
-    for cell in &[1, 7, u32::MAX] {
-        perform_all(&rt, rt.alloc(), *cell, &CORNERS)?;
-    }
-    Ok(())
-}
-
 const BLOCK: At = [[0, 0, 0], [9, 9, 9]];
 
 const MIDDLE: At = [[5, 5, 5], [6, 6, 6]];
@@ -153,8 +137,21 @@ const MANY: [Act; 7] = [
     Act::Find(BLOCK, &[3, 7]),
 ];
 
+// How wide a cell is, and what is done with a grid of such cells.
+const GRIDS: [(u32, &[Act]); 7] = [
+    (10, &TOUCH),
+    (10, &BELOW_ZERO),
+    (10, &MOVED),
+    (1, &CORNERS),
+    (7, &CORNERS),
+    (u32::MAX, &CORNERS),
+    (1, &MANY),
+];
+
 #[test]
-fn many_cells_are_no_matter(rt: HostRuntime) -> Result<(), Fail> {
-    perform_all(&rt, rt.alloc(), 1, &MANY)?;
+fn extents_that_touch_overlap_in_each_grid(rt: HostRuntime) -> Result<(), Fail> {
+    for (cell, acts) in &GRIDS {
+        perform_all(&rt, rt.alloc(), *cell, acts)?;
+    }
     Ok(())
 }

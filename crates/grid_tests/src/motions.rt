@@ -7,9 +7,7 @@ use crate::places::{is_within, wide};
 use crate::same::assert_same;
 use grid_base::{DEPTH_MAX, HALF_MAX, Positions, Wide};
 use grid_meets::meets;
-use motion_test::{
-    Pair, brings_together, closes, directions, keeps_apart, opens, passes, separated, takes_apart,
-};
+use motion_test::{Pair, closes, directions, opens, passes, separated};
 use std::process::Abort;
 
 // The greatest size of a position.
@@ -70,12 +68,17 @@ fn answers(rt: &impl Abort, p: &Pair, depth: u8) -> [bool; 4]
     ]
 }
 
-fn answers_to(rt: &impl Abort, p: &Pair, want: [bool; 4])
+// More than the greatest depth.
+const NEVER: u8 = DEPTH_MAX + 1;
+
+// The pair separates, passes, opens and closes from these depths on, and not at lesser ones.
+fn answers_from(rt: &impl Abort, p: &Pair, least: [u8; 4])
     requires start_fits { AreWithin HALF_MAX (positions_of p.now.start) }
     requires end_fits { AreWithin HALF_MAX (positions_of p.now.end) }
 {
     for depth in 0..DEPTH_MAX + 1 {
-        assert_same(rt, &(depth, answers(rt, p, depth)), &(depth, want));
+        let wanted = least.map(|from| from <= depth);
+        assert_same(rt, &(depth, answers(rt, p, depth)), &(depth, wanted));
     }
 }
 
@@ -118,15 +121,6 @@ fn directions_stand_in_their_order(rt: HostRuntime) {
         let wanted = if *i < 23 { Some(wide(*wanted)) } else { None };
         assert_same(&rt, &(i, all.get(*i).copied()), &(i, wanted));
     }
-    let x = all[0];
-    let kept = keeps_apart(x, &s, &t);
-    let apart = [takes_apart(x, &s, &t), takes_apart(x, &t, &s)];
-    let together = [brings_together(x, &t, &s), brings_together(x, &s, &t)];
-    assert_same(
-        &rt,
-        &(kept, apart, together),
-        &(false, [true, false], [true, false]),
-    );
 }
 
 // Two tetrahedra in half units: vertices 1 to 4, and vertices 5 to 8.
@@ -141,6 +135,18 @@ const VERTICES: [[i64; 3]; 8] = [
     [28, 4, 12],
 ];
 
+// The same, where the second body has moved along x, to beyond the first.
+const PASSED: [[i64; 3]; 8] = [
+    [0, 0, 0],
+    [0, 24, 0],
+    [0, 0, 24],
+    [-24, 0, 0],
+    [-64, 4, 4],
+    [-56, 4, 4],
+    [-56, 12, 4],
+    [-52, 4, 12],
+];
+
 const FIRST_EDGES: [[usize; 2]; 6] = [[1, 2], [1, 3], [1, 4], [2, 3], [2, 4], [3, 4]];
 
 const SECOND_EDGES: [[usize; 2]; 6] = [[5, 6], [5, 7], [5, 8], [6, 7], [6, 8], [7, 8]];
@@ -149,22 +155,21 @@ const FIRST_FACES: [[usize; 3]; 4] = [[1, 2, 3], [2, 1, 4], [3, 2, 4], [1, 3, 4]
 
 const SECOND_FACES: [[usize; 3]; 4] = [[6, 7, 8], [7, 6, 5], [8, 7, 5], [6, 8, 5]];
 
-// Where a vertex stands, where the second body has moved along x.
-fn vertex_at(rt: &impl Abort, v: usize, moved: i64) -> [i64; 3] {
-    assert!(rt; 1 <= v && v <= 8);
-    assert!(rt; -1000 <= moved && moved <= 1000);
-    let [x, y, z] = VERTICES[v - 1];
-    assert!(rt; -1000 <= x && x <= 1000);
-    if v <= 4 { [x, y, z] } else { [x + moved, y, z] }
+// Where the vertex of an id stands, among the vertices from 1 to 8.
+fn vertex_at(vertices: &[[i64; 3]; 8], v: usize) -> [i64; 3] {
+    match vertices.get(v.wrapping_sub(1)) {
+        Some(p) => *p,
+        None => [0; 3],
+    }
 }
 
-fn place(rt: &impl Abort, edge: [usize; 2], face: [usize; 3], moved: i64) -> Place {
+fn place(vertices: &[[i64; 3]; 8], edge: [usize; 2], face: [usize; 3]) -> Place {
     [
-        vertex_at(rt, edge[0], moved),
-        vertex_at(rt, edge[1], moved),
-        vertex_at(rt, face[0], moved),
-        vertex_at(rt, face[1], moved),
-        vertex_at(rt, face[2], moved),
+        vertex_at(vertices, edge[0]),
+        vertex_at(vertices, edge[1]),
+        vertex_at(vertices, face[0]),
+        vertex_at(vertices, face[1]),
+        vertex_at(vertices, face[2]),
     ]
 }
 
@@ -173,7 +178,11 @@ fn passing(rt: &impl Abort, edge: [usize; 2], face: [usize; 3]) -> Pair
     ensures start_fits { AreWithin HALF_MAX (positions_of result.start) }
     ensures end_fits { AreWithin HALF_MAX (positions_of result.end) }
 {
-    pair(rt, &place(rt, edge, face, 0), &place(rt, edge, face, -80))
+    pair(
+        rt,
+        &place(&VERTICES, edge, face),
+        &place(&PASSED, edge, face),
+    )
 }
 
 fn is_clear_at_both_ends(p: &Pair) -> bool
@@ -189,7 +198,7 @@ fn is_clear_at_both_ends(p: &Pair) -> bool
 fn assert_passing(rt: &impl Abort, edge: [usize; 2], face: [usize; 3], passes: bool) {
     let p = passing(rt, edge, face);
     assert!(rt; is_clear_at_both_ends(&p));
-    answers_to(rt, &p, [passes; 4]);
+    answers_from(rt, &p, if passes { [0; 4] } else { [NEVER; 4] });
 }
 
 #[test]
@@ -216,25 +225,6 @@ const BESIDE_MOVED: Place = [
     [-4, -2, 12],
     [5, -2, 3],
 ];
-
-// Where a pair starts and ends, and whether it separates, passes, opens and closes, at each depth.
-const AT_EACH_DEPTH: [(&Place, &Place, [bool; 4]); 6] = [
-    // a pair that leaves a touch only opens, and one that comes to it only closes
-    (&TOUCHING, &MOVED_AWAY, [false, false, true, false]),
-    (&MOVED_AWAY, &TOUCHING, [false, false, false, true]),
-    // pairs that move together pass where they do not meet
-    (&BESIDE, &BESIDE_MOVED, [false, true, false, false]),
-    (&BESIDE, &BESIDE, [false, true, false, false]),
-    (&TOUCHING, &TOUCHING, [false, false, false, false]),
-    (&FAR_OVER, &FAR_THROUGH, [false, false, false, false]),
-];
-
-#[test]
-fn pairs_are_told_alike_at_each_depth(rt: HostRuntime) {
-    for (start, end, want) in &AT_EACH_DEPTH {
-        answers_to(&rt, &pair(&rt, start, end), *want);
-    }
-}
 
 // A pair that is separated only where each of eight parts of its motion has a direction of its own.
 const TURNING: Place = [
@@ -264,32 +254,6 @@ const COMING: Place = [
 
 const ARRIVED: Place = [[-2, 4, 9], [4, 6, 3], [-9, -12, -11], [12, 5, 7], [4, 6, 3]];
 
-#[test]
-fn halves_of_the_time_are_tested_to_the_depth(rt: HostRuntime) {
-    let turning = pair(&rt, &TURNING, &TURNED);
-    let coming = pair(&rt, &COMING, &ARRIVED);
-    let going = pair(&rt, &ARRIVED, &COMING);
-    for depth in 0..DEPTH_MAX + 1 {
-        let deep = depth >= 3;
-        assert_same(
-            &rt,
-            &(depth, answers(&rt, &turning, depth)),
-            &(depth, [deep; 4]),
-        );
-        let deeper = depth >= 4;
-        assert_same(
-            &rt,
-            &(depth, answers(&rt, &coming, depth)),
-            &(depth, [false, false, false, deeper]),
-        );
-        assert_same(
-            &rt,
-            &(depth, answers(&rt, &going, depth)),
-            &(depth, [false, false, deeper, false]),
-        );
-    }
-}
-
 // Pairs of the greatest sizes: one that turns, and one whose edge goes through the triangle after a third of the time.
 const FAR_TURNING: Place = [
     [M, -M, M],
@@ -311,14 +275,26 @@ const FAR_OVER: Place = [[0, 0, M / 2], [0, 0, M], [-M, -M, 0], [M, -M, 0], [0, 
 
 const FAR_THROUGH: Place = [[0, 0, -M], [0, 0, M], [-M, -M, 0], [M, -M, 0], [0, M, 0]];
 
+// Where a pair starts and ends, and from which depths on it separates, passes, opens and closes.
+const FROM_DEPTHS: [(&Place, &Place, [u8; 4]); 10] = [
+    // a pair that leaves a touch only opens, and one that comes to it only closes
+    (&TOUCHING, &MOVED_AWAY, [NEVER, NEVER, 0, NEVER]),
+    (&MOVED_AWAY, &TOUCHING, [NEVER, NEVER, NEVER, 0]),
+    // pairs that move together pass where they do not meet
+    (&BESIDE, &BESIDE_MOVED, [NEVER, 0, NEVER, NEVER]),
+    (&BESIDE, &BESIDE, [NEVER, 0, NEVER, NEVER]),
+    (&TOUCHING, &TOUCHING, [NEVER; 4]),
+    (&FAR_OVER, &FAR_THROUGH, [NEVER; 4]),
+    // the time is halved
+    (&TURNING, &TURNED, [3; 4]),
+    (&COMING, &ARRIVED, [NEVER, NEVER, NEVER, 4]),
+    (&ARRIVED, &COMING, [NEVER, NEVER, 4, NEVER]),
+    (&FAR_TURNING, &FAR_TURNED, [2, 2, 2, 0]),
+];
+
 #[test]
-fn the_greatest_sizes_are_tested_to_the_greatest_depth(rt: HostRuntime) {
-    let turning = pair(&rt, &FAR_TURNING, &FAR_TURNED);
-    assert_same(
-        &rt,
-        &answers(&rt, &turning, 1),
-        &[false, false, false, true],
-    );
-    assert_same(&rt, &answers(&rt, &turning, 2), &[true; 4]);
-    assert_same(&rt, &answers(&rt, &turning, DEPTH_MAX), &[true; 4]);
+fn pairs_are_told_from_their_depths_on(rt: HostRuntime) {
+    for (start, end, least) in &FROM_DEPTHS {
+        answers_from(&rt, &pair(&rt, start, end), *least);
+    }
 }

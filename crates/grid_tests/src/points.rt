@@ -1,11 +1,9 @@
 use crate::places::position;
 use crate::same::assert_same;
 use grid_base::{
-    BOX, HALF_MAX, HALVINGS_MAX, Items, Point, SHIFT_MAX, Shift, Wide, floor_mid, halved, moved,
-    orient,
+    BOX, HALF_MAX, HALVINGS_MAX, Point, SHIFT_MAX, Shift, Wide, floor_mid, halved, moved, orient,
 };
 use std::process::Abort;
-use std::test::Fail;
 
 fn point(rt: &impl Abort, p: [i32; 3]) -> Point {
     Point::new(p[0], p[1], p[2]).expect(rt, "a point in the box")
@@ -19,41 +17,6 @@ fn shift(rt: &impl Abort, s: [i32; 3]) -> Shift {
 const M: i32 = BOX as i32;
 
 const S: i32 = SHIFT_MAX as i32;
-
-// Coordinates, and whether they are those of a point.
-const POINTS: [([i32; 3], bool); 5] = [
-    ([M, -M, 0], true),
-    ([M + 1, 0, 0], false),
-    ([0, -M - 1, 0], false),
-    ([0, 0, M + 1], false),
-    ([0, i32::MIN, 0], false),
-];
-
-// The same of a shift.
-const SHIFTS: [([i32; 3], bool); 4] = [
-    ([S, -S, 0], true),
-    ([-S - 1, 0, 0], false),
-    ([0, S + 1, 0], false),
-    ([0, 0, i32::MIN], false),
-];
-
-#[test]
-fn points_and_shifts_end_at_their_limits(rt: HostRuntime) {
-    for (p, fits) in &POINTS {
-        assert_same(
-            &rt,
-            &(p, Point::new(p[0], p[1], p[2]).is_some()),
-            &(p, *fits),
-        );
-    }
-    for (s, fits) in &SHIFTS {
-        assert_same(
-            &rt,
-            &(s, Shift::new(s[0], s[1], s[2]).is_some()),
-            &(s, *fits),
-        );
-    }
-}
 
 // Shifts, how often they are halved, and what is left: halves are rounded toward zero.
 const HALVES: [([i32; 3], u8, [i32; 3]); 3] = [
@@ -125,33 +88,4 @@ fn products_of_wide_vectors(rt: HostRuntime) {
         );
         assert_same(&rt, &found, wanted);
     }
-}
-
-// The items at the first three places.
-fn first_three(items: &Items<i32>) -> [Option<i32>; 3] {
-    [
-        items.get(0).copied(),
-        items.get(1).copied(),
-        items.get(2).copied(),
-    ]
-}
-
-#[test]
-fn items_keep_their_order(rt: HostRuntime) -> Result<(), Fail> {
-    let mut items = Items::new(rt.alloc());
-    assert_same(&rt, &(items.len(), first_three(&items)), &(0, [None; 3]));
-    items.push(5)?;
-    items.push(7)?;
-    assert_same(
-        &rt,
-        &(items.len(), first_three(&items)),
-        &(2, [Some(5), Some(7), None]),
-    );
-    let taken = items.into_vec();
-    assert!(rt; taken.as_slice() == [5, 7].as_slice());
-    let mut again = Items::from_vec(taken);
-    assert!(rt; again.as_slice() == [5, 7].as_slice());
-    again.set(0, 9);
-    assert!(rt; again.as_slice() == [9, 7].as_slice());
-    Ok(())
 }

@@ -6,8 +6,3 @@ use std::process::Abort;
 pub(crate) fn assert_same<T: PartialEq + Debug>(rt: &impl Abort, found: &T, wanted: &T) {
     assert_eq!(rt; found, wanted);
 }
-
-// The same of bytes.
-pub(crate) fn assert_bytes(rt: &impl Abort, found: &[u8], wanted: &[u8]) {
-    assert_eq!(rt; found, wanted);
-}

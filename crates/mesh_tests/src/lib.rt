@@ -1,10 +1,6 @@
-//! Worked examples on meshes, and on the paths of their vertices.
+//! Worked examples on meshes, and on the boxes of faces that move.
 #![tactic(auto)]
 
-#[cfg(test)]
-mod fields;
-#[cfg(test)]
-mod half_edges;
 #[cfg(test)]
 mod meshes;
 #[cfg(test)]
@@ -15,7 +11,5 @@ mod paths;
 mod plain;
 #[cfg(test)]
 mod plays;
-#[cfg(test)]
-mod rows;
 #[cfg(test)]
 mod same;

@@ -1,9 +1,7 @@
 //! Meshes for the examples.
 use grid_base::{NoMemory, Point};
-use mesh_base::{MeshLists, Points, Scale, Triangles};
-use mesh_plain::{PlainMesh, shape};
+use mesh_base::{MeshLists, Points, Triangles};
 use std::alloc::Global;
-use std::process::Abort;
 
 pub(crate) const TETRAHEDRON: [[i32; 3]; 4] = [[0, 0, 0], [4, 0, 0], [0, 4, 0], [0, 0, 4]];
 
@@ -32,17 +30,4 @@ pub(crate) fn lists_of(
 
 pub(crate) fn tetrahedron(alloc: Global) -> Result<MeshLists, NoMemory> {
     lists_of(alloc, &TETRAHEDRON, &SIDES)
-}
-
-// A mesh of good shape.
-pub(crate) fn mesh_at(
-    alloc: Global,
-    points: &[[i32; 3]],
-    faces: &[[u32; 3]],
-    rt: &impl Abort,
-) -> Result<PlainMesh, NoMemory> {
-    let lists = lists_of(alloc, points, faces)?;
-    let shaped = shape(alloc, Scale::Standard, &lists);
-    assert!(rt; shaped.is_ok());
-    PlainMesh::of(alloc, Scale::Standard, &lists)
 }

@@ -2,7 +2,7 @@
 
 use crate::meshes::tetrahedron;
 use grid_base::{Extent, NoMemory, Point};
-use mesh_base::{FaceId, Scale, Surface, faces_near_of_all};
+use mesh_base::{FaceId, Scale, Surface};
 use mesh_journal::JournalMesh;
 use mesh_plain::shape;
 use std::alloc::Global;
@@ -28,7 +28,7 @@ const BOXES: [([[i32; 3]; 2], &[u32]); 8] = [
 // The greatest coordinate of a point.
 const M: i32 = 268_435_456;
 
-pub(crate) const HERE: [[i32; 3]; 2] = [[7, 0, 0], [8, 0, 0]];
+const HERE: [[i32; 3]; 2] = [[7, 0, 0], [8, 0, 0]];
 
 const CORNER: [[i32; 3]; 2] = [[8, 8, 8], [9, 9, 9]];
 
@@ -37,7 +37,7 @@ fn point(p: [i32; 3], rt: &impl Abort) -> Point {
 }
 
 // The box from one corner to another.
-pub(crate) fn extent(at: [[i32; 3]; 2], rt: &impl Abort) -> Extent {
+fn extent(at: [[i32; 3]; 2], rt: &impl Abort) -> Extent {
     let low = point(at[0], rt);
     let high = point(at[1], rt);
     Extent::around(low.wide(), high.wide())
@@ -70,8 +70,6 @@ fn assert_near(
     let mut faces = vec![in alloc; FaceId(7)]?;
     let at = extent(at, rt);
     journal.faces_near(at, &mut faces)?;
-    assert!(rt; are_faces(&faces, ids));
-    faces_near_of_all(journal, &at, &mut faces)?;
     assert!(rt; are_faces(&faces, ids));
     Ok(())
 }

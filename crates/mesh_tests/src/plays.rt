@@ -1,26 +1,24 @@
-//! A list of acts, each played on a plain mesh, on half-edges and on a journal, taken back and played again.
-ghost use Rattle.std.specs.Prelude.{◌≡◌, OnOk, IfOk, None, length, true};
+//! A list of acts, each played on half-edges and on a journal, taken back and played again.
+ghost use Rattle.std.specs.Prelude.{◌≡◌, IfOk, None, length, true};
 ghost use Rattle.mesh_base.specs.Changes.{IsFresh};
 ghost use Rattle.mesh_base.specs.declared.limits.Scale.TheVariants.{Standard};
-ghost use Rattle.mesh_base.specs.Given.{mesh_of};
 ghost use Rattle.mesh_plain.specs.Shape.{shape_fault};
 ghost use Rattle.mesh_play.specs.Play.{IsAllowed};
 
 use crate::meshes::tetrahedron;
-use crate::near::{HERE, extent};
 use grid_base::{NoMemory, Point};
 use half_mesh::HalfMesh;
 use mesh_base::{FaceId, FaceIds, MeshLists, Scale, Surface, VertexId};
 use mesh_journal::JournalMesh;
-use mesh_plain::{PlainMesh, shape};
-use mesh_play::{Act, Answer, Answers, Call, Question, ThreeAnswers, play_both, play_three};
+use mesh_plain::shape;
+use mesh_play::{Act, Answer, Answers, Call, Question, play};
 use std::alloc::Global;
 use std::process::Abort;
 use std::test::Fail;
 
 /// An answer that is expected.
 #[derive(Clone, Copy)]
-pub(crate) enum Want {
+enum Want {
     Done,
     Full,
     Number(u32),
@@ -171,7 +169,7 @@ fn is_list(faces: &FaceIds, wanted: [Option<FaceId>; 4]) -> bool {
     same
 }
 
-pub(crate) fn is_told(answer: &Answer, want: Want) -> bool {
+fn is_told(answer: &Answer, want: Want) -> bool {
     match (answer, want) {
         (Answer::Done, Want::Done) | (Answer::Full, Want::Full) => true,
         (Answer::Number { n }, Want::Number(wanted)) => *n == wanted,
@@ -214,11 +212,7 @@ fn is_fresh<S: Surface>(surface: &S, a: VertexId, b: VertexId, c: VertexId) -> b
 }
 
 /// Whether the act surely meets its condition.
-pub(crate) fn is_allowed<S: Surface>(
-    alloc: Global,
-    surface: &S,
-    act: &Act,
-) -> Result<bool, NoMemory>
+fn is_allowed<S: Surface>(alloc: Global, surface: &S, act: &Act) -> Result<bool, NoMemory>
     ensures { IfOk result (λ yes. yes ≡ true → IsAllowed (S.mesh surface.now) act.now) }
 {
     let allowed = match *act {
@@ -235,16 +229,6 @@ pub(crate) fn is_allowed<S: Surface>(
     Ok(allowed)
 }
 
-/// Whether the act surely meets its condition on the mesh that lists give.
-fn is_allowed_at_first(alloc: Global, lists: &MeshLists, act: &Act) -> Result<bool, NoMemory>
-    requires { shape_fault Standard (length lists.now.points) lists.now.faces ≡ None }
-    ensures { IfOk result (λ yes. yes ≡ true
-        → IsAllowed (mesh_of lists.now.points lists.now.faces) act.now) }
-{
-    let mesh = PlainMesh::of(alloc, Scale::Standard, lists)?;
-    is_allowed(alloc, &mesh, act)
-}
-
 fn assert_told(rt: &impl Abort, answers: &Answers, wants: &[Want]) {
     assert_eq!(rt; answers.len(), wants.len());
     for (i, (answer, want)) in answers.as_slice().iter().zip(wants).enumerate() {
@@ -253,34 +237,28 @@ fn assert_told(rt: &impl Abort, answers: &Answers, wants: &[Want]) {
 }
 
 /// Does an act, takes it back, and does it again.
-fn play_row<S: Surface, T: Surface>(
+fn play_row<S: Surface>(
     rt: &impl Abort,
     alloc: Global,
-    one: &mut S,
-    other: &mut T,
+    surface: &mut S,
     row: &Row,
-) -> Result<(), NoMemory>
-    requires { S.mesh one.old ≡ T.mesh other.old }
-    ensures { OnOk result (S.mesh one.new ≡ T.mesh other.new) }
-{
-    assert!(rt; is_allowed(alloc, one, &row.act)?);
+) -> Result<(), NoMemory> {
+    assert!(rt; is_allowed(alloc, surface, &row.act)?);
+    let ask = Call::Ask {
+        question: row.question,
+    };
+    let make = Call::Make { act: row.act };
     let calls = [
         Call::MakeMark,
-        Call::Make { act: row.act },
-        Call::Ask {
-            question: row.question,
-        },
+        make,
+        ask,
         Call::BackTo { nth: 0 },
-        Call::Ask {
-            question: row.question,
-        },
-        Call::Make { act: row.act },
-        Call::Ask {
-            question: row.question,
-        },
+        ask,
+        make,
+        ask,
         Call::Settle,
     ];
-    let (first, second) = play_both(alloc, one, other, &calls)?;
+    let answers = play(alloc, surface, &calls)?;
     let wants = [
         Want::Done,
         row.done,
@@ -291,174 +269,49 @@ fn play_row<S: Surface, T: Surface>(
         row.after,
         Want::Done,
     ];
-    assert_told(rt, &first, &wants);
-    assert_told(rt, &second, &wants);
+    assert_told(rt, &answers, &wants);
     Ok(())
 }
 
 /// The same of each row, one after another.
-fn play_rows<S: Surface, T: Surface>(
-    rt: &impl Abort,
-    alloc: Global,
-    one: &mut S,
-    other: &mut T,
-) -> Result<(), NoMemory>
-    requires { S.mesh one.old ≡ T.mesh other.old }
-{
+fn play_rows<S: Surface>(rt: &impl Abort, alloc: Global, surface: &mut S) -> Result<(), NoMemory> {
     for row in &ROWS {
-        play_row(rt, alloc, one, other, row)?;
+        play_row(rt, alloc, surface, row)?;
     }
     Ok(())
 }
 
+// The lists of the tetrahedron, whose shape is good.
+fn shaped(rt: &impl Abort, alloc: Global) -> Result<MeshLists, NoMemory>
+    ensures { IfOk result (λ lists. shape_fault Standard (length lists.points) lists.faces ≡ None) }
+{
+    let lists = tetrahedron(alloc)?;
+    assert!(rt; shape(alloc, Scale::Standard, &lists).is_ok());
+    Ok(lists)
+}
+
 #[test]
-fn plain_meshes_and_half_edges_answer_alike(rt: HostRuntime) -> Result<(), Fail> {
-    let lists = tetrahedron(rt.alloc())?;
-    assert!(rt; shape(rt.alloc(), Scale::Standard, &lists).is_ok());
-    let mut plain = PlainMesh::of(rt.alloc(), Scale::Standard, &lists)?;
+fn half_edges_answer_and_go_back(rt: HostRuntime) -> Result<(), Fail> {
+    let lists = shaped(&rt, rt.alloc())?;
     let mut half = HalfMesh::of(rt.alloc(), Scale::Standard, &lists)?;
-    play_rows(&rt, rt.alloc(), &mut plain, &mut half)?;
+    play_rows(&rt, rt.alloc(), &mut half)?;
     Ok(())
 }
 
 #[test]
-fn plain_meshes_and_journals_answer_alike(rt: HostRuntime) -> Result<(), Fail> {
-    let lists = tetrahedron(rt.alloc())?;
-    assert!(rt; shape(rt.alloc(), Scale::Standard, &lists).is_ok());
-    let mut plain = PlainMesh::of(rt.alloc(), Scale::Standard, &lists)?;
+fn journals_answer_and_go_back(rt: HostRuntime) -> Result<(), Fail> {
+    let lists = shaped(&rt, rt.alloc())?;
     let mut journal = JournalMesh::of(rt.alloc(), Scale::Standard, &lists)?;
-    play_rows(&rt, rt.alloc(), &mut plain, &mut journal)?;
+    play_rows(&rt, rt.alloc(), &mut journal)?;
     Ok(())
-}
-
-// Each of the three has told this.
-fn assert_all_told(rt: &impl Abort, told: &ThreeAnswers, wants: &[Want]) {
-    assert_told(rt, &told.plain, wants);
-    assert_told(rt, &told.half, wants);
-    assert_told(rt, &told.journal, wants);
-}
-
-const BACK: [Want; 11] = [
-    Want::Faces([Some(FaceId(1)), Some(FaceId(2)), Some(FaceId(4)), None]),
-    Want::Done,
-    Want::VertexMade(VertexId(5)),
-    Want::Done,
-    Want::VertexMade(VertexId(6)),
-    Want::Number(7),
-    Want::Done,
-    Want::Number(5),
-    Want::Number(5),
-    Want::Done,
-    Want::VertexMade(VertexId(5)),
-];
-
-// The return to the first mark takes both back, and the vertices that were made since.
-fn told_back(alloc: Global, lists: &MeshLists) -> Result<ThreeAnswers, NoMemory>
-    requires { shape_fault Standard (length lists.now.points) lists.now.faces ≡ None }
-{
-    let calls = [
-        Call::Ask {
-            question: Question::FacesAt { v: VertexId(1) },
-        },
-        Call::MakeMark,
-        Call::Make {
-            act: Act::AddVertex { p: FAR },
-        },
-        Call::MakeMark,
-        Call::Make {
-            act: Act::AddVertex { p: FAR },
-        },
-        Call::Ask {
-            question: Question::NextVertex,
-        },
-        Call::BackTo { nth: 0 },
-        Call::Ask {
-            question: Question::NextVertex,
-        },
-        Call::Ask {
-            question: Question::NextFace,
-        },
-        Call::Settle,
-        Call::Make {
-            act: Act::AddVertex { p: FAR },
-        },
-    ];
-    play_three(alloc, Scale::Standard, lists, &calls)
-}
-
-#[test]
-fn a_return_gives_the_ids_back_of_each_mesh(rt: HostRuntime) -> Result<(), Fail> {
-    let lists = tetrahedron(rt.alloc())?;
-    assert!(rt; shape(rt.alloc(), Scale::Standard, &lists).is_ok());
-    let told = told_back(rt.alloc(), &lists)?;
-    assert_all_told(&rt, &told, &BACK);
-    Ok(())
-}
-
-const NEAR: [Want; 7] = [
-    Want::Done,
-    Want::Done,
-    Want::Done,
-    Want::Faces([Some(FaceId(1)), Some(FaceId(3)), None, None]),
-    Want::Done,
-    Want::Done,
-    Want::Faces([Some(FaceId(1)), Some(FaceId(2)), Some(FaceId(3)), None]),
-];
-
-// A face is dropped and comes back, and the faces near a box are asked for before and after.
-fn told_near(alloc: Global, lists: &MeshLists, rt: &impl Abort) -> Result<ThreeAnswers, NoMemory>
-    requires { shape_fault Standard (length lists.now.points) lists.now.faces ≡ None }
-{
-    let act = Act::DropFace { f: FaceId(2) };
-    assert!(rt; is_allowed_at_first(alloc, lists, &act)?);
-    let near = Question::FacesNear {
-        at: extent(HERE, rt),
-    };
-    let calls = [
-        Call::Index,
-        Call::MakeMark,
-        Call::Make { act },
-        Call::Ask { question: near },
-        Call::Index,
-        Call::BackTo { nth: 0 },
-        Call::Ask { question: near },
-    ];
-    play_three(alloc, Scale::Standard, lists, &calls)
-}
-
-#[test]
-fn faces_near_are_the_same_of_each_mesh_made_ready(rt: HostRuntime) -> Result<(), Fail> {
-    let lists = tetrahedron(rt.alloc())?;
-    assert!(rt; shape(rt.alloc(), Scale::Standard, &lists).is_ok());
-    let told = told_near(rt.alloc(), &lists, &rt)?;
-    assert_all_told(&rt, &told, &NEAR);
-    Ok(())
-}
-
-fn play_last_of_half(alloc: Global, lists: &MeshLists, rt: &impl Abort) -> Result<(), NoMemory>
-    requires { shape_fault Standard (length lists.now.points) lists.now.faces ≡ None }
-{
-    assert_eq!(rt; (lists.points.len(), lists.faces.len()), (4, 4));
-    let mut plain = PlainMesh::of_numbered(alloc, Scale::Standard, lists, 2_147_483_649, 5)?;
-    let mut half = HalfMesh::of_numbered(alloc, Scale::Standard, lists, 2_147_483_649, 5)?;
-    play_row(rt, alloc, &mut plain, &mut half, &FULL)
-}
-
-fn play_last_of_journal(alloc: Global, lists: &MeshLists, rt: &impl Abort) -> Result<(), NoMemory>
-    requires { shape_fault Standard (length lists.now.points) lists.now.faces ≡ None }
-{
-    assert_eq!(rt; (lists.points.len(), lists.faces.len()), (4, 4));
-    let mut plain = PlainMesh::of_numbered(alloc, Scale::Standard, lists, 2_147_483_649, 5)?;
-    let mut journal = JournalMesh::of_numbered(alloc, Scale::Standard, lists, 2_147_483_649, 5)?;
-    journal.reserve(3)?;
-    play_row(rt, alloc, &mut plain, &mut journal, &FULL)
 }
 
 #[test]
 fn the_last_ids_are_given(rt: HostRuntime) -> Result<(), Fail> {
-    let lists = tetrahedron(rt.alloc())?;
-    assert!(rt; shape(rt.alloc(), Scale::Standard, &lists).is_ok());
-    play_last_of_half(rt.alloc(), &lists, &rt)?;
-    play_last_of_journal(rt.alloc(), &lists, &rt)?;
+    let lists = shaped(&rt, rt.alloc())?;
+    assert_eq!(&rt; (lists.points.len(), lists.faces.len()), (4, 4));
+    let alloc = rt.alloc();
+    let mut journal = JournalMesh::of_numbered(alloc, Scale::Standard, &lists, 2_147_483_649, 5)?;
+    play_row(&rt, alloc, &mut journal, &FULL)?;
     Ok(())
 }

@@ -63,8 +63,12 @@ fn fault_of(rt: &impl Abort, alloc: Global, text: &[u8]) -> Result<(u32, TextWhy
     }
 }
 
+// A tree with one half more than in the greatest depth.
+const TOO_DEEP: &[u8] = b"topo proof 1\nmotion 1 along\npair 1 2 3\nhalf\nhalf\nhalf\nhalf\n\
+half\nhalf\nhalf\nhalf\nhalf\nhalf\nhalf\n";
+
 // A text, the line of its first fault, and the reason.
-const FAULTS: [(&[u8], u32, TextWhy); 36] = [
+const FAULTS: [(&[u8], u32, TextWhy); 37] = [
     (b"", 1, TextWhy::Order),
     (b"\n", 1, TextWhy::Unknown),
     (b"topo", 1, TextWhy::Short),
@@ -141,6 +145,7 @@ const FAULTS: [(&[u8], u32, TextWhy); 36] = [
     (b"dir 9999999999999999999999999 0 x\n", 1, TextWhy::Number),
     (b"dir 2417851639229258349412353 0 0\n", 1, TextWhy::Range),
     (b"dir 1 0\n", 1, TextWhy::Short),
+    (TOO_DEEP, 14, TextWhy::Order),
 ];
 
 #[test]
@@ -149,16 +154,5 @@ fn reasons_come_in_order(rt: HostRuntime) -> Result<(), Fail> {
         let found = fault_of(&rt, rt.alloc(), text)?;
         assert_same(&rt, &found, &(*line, *why));
     }
-    Ok(())
-}
-
-// A tree with one half more than in the greatest depth.
-const TOO_DEEP: &[u8] = b"topo proof 1\nmotion 1 along\npair 1 2 3\nhalf\nhalf\nhalf\nhalf\n\
-half\nhalf\nhalf\nhalf\nhalf\nhalf\nhalf\n";
-
-#[test]
-fn trees_have_a_greatest_depth(rt: HostRuntime) -> Result<(), Fail> {
-    let found = fault_of(&rt, rt.alloc(), TOO_DEEP)?;
-    assert_same(&rt, &found, &(14, TextWhy::Order));
     Ok(())
 }

@@ -1,4 +1,4 @@
-//! Worked examples on the pairs of an edge and a face, and on how a step is taken.
+//! Worked examples on how a step is taken, and on lists that are kept from step to step.
 #![tactic(auto)]
 
 #[cfg(test)]
@@ -11,7 +11,3 @@ mod kept_lists;
 mod meshes;
 #[cfg(test)]
 mod same;
-#[cfg(test)]
-mod scans;
-#[cfg(test)]
-mod zones;

@@ -1,6 +1,6 @@
 //! Meshes for the examples.
 use grid_base::{NoMemory, Point};
-use mesh_base::{MeshLists, Points, Scale, Surface, Triangles, VertexId};
+use mesh_base::{MeshLists, Points, Scale, Triangles};
 use mesh_plain::{PlainMesh, shape};
 use std::alloc::Global;
 use std::process::Abort;
@@ -35,42 +35,56 @@ fn lists_of(alloc: Global, points: &[[i32; 3]], faces: &[[u32; 3]]) -> Result<Me
         points: Points::new(alloc),
         faces: Triangles::new(alloc),
     };
+    put(&mut lists, points, faces, [0; 2], 0)?;
+    Ok(lists)
+}
+
+// Puts points to the lists, so far to the side and up, behind so many, and faces by the numbers of their corners among these.
+fn put(
+    lists: &mut MeshLists,
+    points: &[[i32; 3]],
+    faces: &[[u32; 3]],
+    [x, y]: [i32; 2],
+    before: u32,
+) -> Result<(), NoMemory> {
     for p in points {
-        if let Some(point) = Point::new(p[0], p[1], p[2]) {
+        if let Some(point) = Point::new(p[0].wrapping_add(x), p[1].wrapping_add(y), p[2]) {
             lists.points.push(point)?;
         }
     }
     for f in faces {
-        lists.faces.push(*f)?;
+        lists.faces.push(f.map(|v| v.wrapping_add(before)))?;
     }
-    Ok(lists)
+    Ok(())
 }
 
 // A mesh of good shape.
-pub(crate) fn mesh_at(
-    alloc: Global,
-    points: &[[i32; 3]],
-    faces: &[[u32; 3]],
-    rt: &impl Abort,
-) -> Result<PlainMesh, NoMemory> {
-    let lists = lists_of(alloc, points, faces)?;
-    let shaped = shape(alloc, Scale::Standard, &lists);
+fn mesh_of(alloc: Global, lists: &MeshLists, rt: &impl Abort) -> Result<PlainMesh, NoMemory> {
+    let shaped = shape(alloc, Scale::Standard, lists);
     assert!(rt; shaped.is_ok());
-    PlainMesh::of(alloc, Scale::Standard, &lists)
+    PlainMesh::of(alloc, Scale::Standard, lists)
 }
 
-// The two tetrahedra beside each other, so far down, the first vertex solid or not.
-pub(crate) fn beside(
-    alloc: Global,
-    down: i32,
-    solid: bool,
-    rt: &impl Abort,
-) -> Result<PlainMesh, NoMemory> {
-    let points = BESIDE.map(|p| [p[0], p[1].wrapping_sub(down), p[2]]);
-    let mut mesh = mesh_at(alloc, &points, &BESIDE_SIDES, rt)?;
-    if solid {
-        assert!(rt; mesh.point(VertexId(1)).is_some());
-        mesh.make_solid(VertexId(1))?;
+// The two tetrahedra beside each other.
+pub(crate) fn beside(alloc: Global, rt: &impl Abort) -> Result<PlainMesh, NoMemory> {
+    let lists = lists_of(alloc, &BESIDE, &BESIDE_SIDES)?;
+    mesh_of(alloc, &lists, rt)
+}
+
+const TETRAHEDRON: [[i32; 3]; 4] = [[0, 0, 0], [48, 0, 0], [0, 48, 0], [0, 0, 48]];
+
+const SIDES: [[u32; 3]; 4] = [[1, 3, 2], [1, 2, 4], [2, 3, 4], [1, 4, 3]];
+
+// Seventeen rows of eight tetrahedra.
+pub(crate) fn many(alloc: Global, rt: &impl Abort) -> Result<PlainMesh, NoMemory> {
+    let mut lists = lists_of(alloc, &[], &[])?;
+    let mut before: u32 = 0;
+    for row in 0..17_i32 {
+        for column in 0..8_i32 {
+            let at = [column.wrapping_mul(100), row.wrapping_mul(100)];
+            put(&mut lists, &TETRAHEDRON, &SIDES, at, before)?;
+            before = before.wrapping_add(4);
+        }
     }
-    Ok(mesh)
+    mesh_of(alloc, &lists, rt)
 }

@@ -1,14 +1,8 @@
 //! What is found beside what is wanted.
-use mesh_base::PairName;
 use std::fmt::Debug;
 use std::process::Abort;
 
 // Ends the test where what is found is not what is wanted. One call costs the prover less than an assertion in its place.
 pub(crate) fn assert_same<T: PartialEq + Debug>(rt: &impl Abort, found: &T, wanted: &T) {
-    assert_eq!(rt; found, wanted);
-}
-
-// The same of pairs.
-pub(crate) fn assert_pairs(rt: &impl Abort, found: &[PairName], wanted: &[PairName]) {
     assert_eq!(rt; found, wanted);
 }

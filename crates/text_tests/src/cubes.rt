@@ -1,32 +1,10 @@
 use crate::same::assert_same;
-use grid_base::Point;
+use grid_base::{NoMemory, Point};
 use mesh_make::{Job, cubes};
+use std::alloc::Global;
 use std::process::Abort;
 use std::test::Fail;
-use step_text::{Directive, Directives};
-
-// What is shifted by a line: the vertex and the shift.
-type ShiftOn = (u32, [i32; 3]);
-
-// The vertex and the shift of the directive on a line, where it shifts one vertex.
-fn shift_on(directives: &Directives, line: u32) -> Option<ShiftOn> {
-    let placed = directives.get(line.checked_sub(1)? as usize)?;
-    if placed.line != line {
-        return None;
-    }
-    match &placed.what {
-        Directive::ShiftOne { v, by } => Some((*v, [by.x, by.y, by.z])),
-        _ => None,
-    }
-}
-
-// Whether the directive on a line is a step.
-fn is_step_on(directives: &Directives, line: u32) -> bool {
-    match directives.get(line.saturating_sub(1) as usize) {
-        Some(placed) => placed.line == line && placed.what == Directive::Step,
-        None => false,
-    }
-}
+use step_text::Directive;
 
 // How many points, faces and directives a job has.
 fn counts(job: &Job) -> [usize; 3] {
@@ -37,50 +15,73 @@ fn counts(job: &Job) -> [usize; 3] {
     ]
 }
 
-fn assert_directives(
-    rt: &impl Abort,
-    directives: &Directives,
-    shifts: &[(u32, ShiftOn)],
-    steps: [u32; 2],
-) {
-    for (line, shift) in shifts {
-        assert_same(rt, &shift_on(directives, *line), &Some(*shift));
+// A line, and which vertex is shifted on it, and how; None, where it is a step.
+type Line = (u32, Option<(u32, [i32; 3])>);
+
+fn is_told(what: &Directive, wanted: Option<(u32, [i32; 3])>) -> bool {
+    match (what, wanted) {
+        (Directive::ShiftOne { v, by }, Some(shift)) => (*v, [by.x, by.y, by.z]) == shift,
+        (Directive::Step, None) => true,
+        _ => false,
     }
-    assert!(rt; is_step_on(directives, steps[0]));
-    assert!(rt; is_step_on(directives, steps[1]));
 }
 
-// The lines of some shifts, where there is one cube.
-const ONE: [(u32, ShiftOn); 4] = [
-    (1, (1, [1, 5, 9])),
-    (8, (8, [1, 5, 9])),
-    (10, (1, [5, 9, 4])),
-    (19, (1, [9, 4, 8])),
+fn is_on(job: &Job, (line, wanted): Line) -> bool {
+    match job.directives.get(line.saturating_sub(1) as usize) {
+        Some(placed) => placed.line == line && is_told(&placed.what, wanted),
+        None => false,
+    }
+}
+
+// Lines of the job of one cube, which moves by the key.
+const ONE: [Line; 6] = [
+    (1, Some((1, [1, 5, 9]))),
+    (8, Some((8, [1, 5, 9]))),
+    (9, None),
+    (10, Some((1, [5, 9, 4]))),
+    (19, Some((1, [9, 4, 8]))),
+    (27, None),
 ];
 
-#[test]
-fn one_cube_moves_by_the_key(rt: HostRuntime) -> Result<(), Fail> {
-    let job = cubes(rt.alloc(), 1, 7)?;
-    assert_same(&rt, &counts(&job), &[8, 12, 29]);
-    assert_same(&rt, &job.mesh.faces.get(11).copied(), &Some([4, 5, 8]));
-    assert_directives(&rt, &job.directives, &ONE, [9, 27]);
+// The same of eight, which stand in rows.
+const EIGHT: [Line; 4] = [
+    (64, Some((64, [5, 9, 4]))),
+    (65, None),
+    (194, Some((64, [4, 8, 3]))),
+    (195, None),
+];
+
+// How many cubes stand in a row, the counts, the last point and the last face, and some lines.
+type Row<'a> = (u8, [usize; 3], [i32; 3], [u32; 3], &'a [Line]);
+
+const JOBS: [Row; 2] = [
+    (1, [8, 12, 29], [0, 40, 40], [4, 5, 8], &ONE),
+    (2, [64, 96, 197], [100, 140, 140], [60, 61, 64], &EIGHT),
+];
+
+fn assert_job(
+    rt: &impl Abort,
+    alloc: Global,
+    (row, wanted, point, face, lines): Row,
+) -> Result<(), NoMemory> {
+    let job = cubes(alloc, row, 7)?;
+    assert_same(rt, &counts(&job), &wanted);
+    assert_same(
+        rt,
+        &job.mesh.points.as_slice().last().copied(),
+        &Point::new(point[0], point[1], point[2]),
+    );
+    assert_same(rt, &job.mesh.faces.as_slice().last().copied(), &Some(face));
+    for line in lines {
+        assert!(rt; is_on(&job, *line), "line {}", line.0);
+    }
     Ok(())
 }
 
-// The same, where there are eight.
-const EIGHT: [(u32, ShiftOn); 2] = [(64, (64, [5, 9, 4])), (194, (64, [4, 8, 3]))];
-
 #[test]
-fn eight_cubes_stand_in_rows(rt: HostRuntime) -> Result<(), Fail> {
-    let job = cubes(rt.alloc(), 2, 7)?;
-    assert_same(&rt, &counts(&job), &[64, 96, 197]);
-    let points = [
-        job.mesh.points.get(8).copied(),
-        job.mesh.points.get(63).copied(),
-    ];
-    let wanted = [Point::new(100, 0, 0), Point::new(100, 140, 140)];
-    assert_same(&rt, &points, &wanted);
-    assert_same(&rt, &job.mesh.faces.get(95).copied(), &Some([60, 61, 64]));
-    assert_directives(&rt, &job.directives, &EIGHT, [65, 195]);
+fn cubes_stand_in_rows_and_move_by_the_key(rt: HostRuntime) -> Result<(), Fail> {
+    for row in &JOBS {
+        assert_job(&rt, rt.alloc(), *row)?;
+    }
     Ok(())
 }

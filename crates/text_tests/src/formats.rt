@@ -1,11 +1,10 @@
-//! Worked examples: texts that are read and written in three formats, and texts outside the grammars.
+//! Worked examples: texts that are read in three formats, and texts outside the grammars.
 use crate::same::assert_bytes;
 use grid_base::{DECIMALS_MAX, NoMemory};
 use line_text::{Parts, ReadFault, TextFault, cut_at};
-use mesh_base::{MeshLists, Scale};
-use mesh_plain::{PlainMesh, shape};
-use obj_text::{obj_of, read_obj};
-use other_text::{off_of, ply_of, read_off, read_ply};
+use mesh_base::MeshLists;
+use obj_text::read_obj;
+use other_text::{off_of, read_off, read_ply};
 use std::alloc::Global;
 use std::process::Abort;
 use std::test::Fail;
@@ -39,6 +38,30 @@ const OFF_DECIMALS: &str =
 const DECIMALS: &str = "OFF\n5 6 0\n-0.001 0.000 0.000\n4.000 0.000 0.000\n4.000 4.000 0.000\n\
 0.000 4.000 0.000\n2.000 2.000 3.063\n3 3 2 1\n3 3 1 0\n3 0 1 4\n3 1 2 4\n3 2 3 4\n3 3 0 4\n";
 
+// A cube as a modelling tool writes it.
+const CUBE: &str = "# cube\nmtllib cube.mtl\no Cube\n\
+v 1.000000 1.000000 -1.000000\nv 1.000000 -1.000000 -1.000000\nv 1.000000 1.000000 1.000000\n\
+v 1.000000 -1.000000 1.000000\nv -1.000000 1.000000 -1.000000\nv -1.000000 -1.000000 -1.000000\n\
+v -1.000000 1.000000 1.000000\nv -1.000000 -1.000000 1.000000\nvt 0.625000 0.500000\n\
+vn 0.0000 1.0000 0.0000\nusemtl Material\ns off\nf 1/1/1 5/1/1 7/1/1 3/1/1\n\
+f 4/1/1 3/1/1 7/1/1 8/1/1\nf 8/1/1 7/1/1 5/1/1 6/1/1\nf 6/1/1 2/1/1 4/1/1 8/1/1\n\
+f 2/1/1 1/1/1 3/1/1 4/1/1\nf 6/1/1 5/1/1 1/1/1 2/1/1\n";
+
+// The triangles of its fans.
+const OFF_CUBE: &str = "OFF\n8 12 0\n1.000 1.000 -1.000\n1.000 -1.000 -1.000\n1.000 1.000 1.000\n\
+1.000 -1.000 1.000\n-1.000 1.000 -1.000\n-1.000 -1.000 -1.000\n-1.000 1.000 1.000\n-1.000 -1.000 1.000\n\
+3 0 4 6\n3 0 6 2\n3 3 2 6\n3 3 6 7\n3 7 6 4\n3 7 4 5\n3 5 1 3\n3 5 3 7\n3 1 0 2\n3 1 2 3\n3 5 4 0\n3 5 0 1\n";
+
+const POINTS: &str = "v 268435456 0 0\nv 0.5 -0.5 1e1\nv 1e-999 0 0\nv 1 2 3 4 5 6 7";
+
+const OFF_POINTS: &str = "OFF\n4 0 0\n268435456 0 0\n1 -1 10\n0 0 0\n1 2 3\n";
+
+// Corners are counted from both ends. A positive one may name a vertex that stands later, or none.
+const CORNERS: &str = "f 1 2 4294967295\nv 0 0 0\nv 0 0 0\nv 0 0 0\nf -3 -2/-1 -1//7 1/2/3 2\n";
+
+const OFF_CORNERS: &str =
+    "OFF\n3 4 0\n0 0 0\n0 0 0\n0 0 0\n3 0 1 4294967294\n3 0 1 2\n3 0 2 0\n3 0 0 1\n";
+
 // The first two lines of a PLY text, and what follows them up to a vertex with its coordinates, and to a face.
 const ASCII: &str = "ply\nformat ascii 1.0\n";
 
@@ -70,59 +93,62 @@ fn read(
     }
 }
 
-fn written(
-    rt: &impl Abort,
-    alloc: Global,
-    format: Format,
-    lists: &MeshLists,
-    decimals: u8,
-) -> Result<Vec<u8>, NoMemory> {
-    assert!(rt; decimals <= DECIMALS_MAX);
-    match format {
-        Format::Off => off_of(alloc, lists, decimals),
-        Format::Ply => ply_of(alloc, lists, decimals),
-        Format::Obj => {
-            let good = shape(alloc, Scale::Standard, lists);
-            assert!(rt; good.is_ok());
-            let mesh = PlainMesh::of(alloc, Scale::Standard, lists)?;
-            obj_of(alloc, &mesh, decimals)
-        }
-    }
-}
-
-// The text in one format is written so in another.
+// The text in a format is written so in the format OFF.
 fn assert_written(
     rt: &impl Abort,
     alloc: Global,
-    (from, text): (Format, &str),
-    (to, wanted): (Format, &str),
-    decimals: u8,
+    (format, text, decimals): (Format, &str, u8),
+    wanted: &str,
 ) -> Result<(), ReadFault> {
-    let lists = read(rt, alloc, from, text.as_bytes(), decimals)?;
-    let found = written(rt, alloc, to, &lists, decimals)?;
+    let lists = read(rt, alloc, format, text.as_bytes(), decimals)?;
+    assert!(rt; decimals <= DECIMALS_MAX);
+    let found = off_of(alloc, &lists, decimals)?;
     assert_bytes(rt, found.as_slice(), wanted.as_bytes());
     Ok(())
 }
 
-const WRITTEN: [((Format, &str), (Format, &str), u8); 6] = [
-    ((Format::Obj, OBJ), (Format::Off, OFF), 0),
-    ((Format::Off, OFF), (Format::Ply, PLY), 0),
-    ((Format::Ply, PLY), (Format::Obj, OBJ), 0),
-    ((Format::Off, OFF_PYRAMID), (Format::Off, PYRAMID), 0),
-    ((Format::Ply, PLY_PYRAMID), (Format::Off, PYRAMID), 0),
-    ((Format::Off, OFF_DECIMALS), (Format::Off, DECIMALS), 3),
+const WRITTEN: [((Format, &str, u8), &str); 8] = [
+    ((Format::Obj, OBJ, 0), OFF),
+    ((Format::Obj, POINTS, 0), OFF_POINTS),
+    ((Format::Obj, CORNERS, 0), OFF_CORNERS),
+    ((Format::Obj, CUBE, 3), OFF_CUBE),
+    ((Format::Ply, PLY, 0), OFF),
+    ((Format::Off, OFF_PYRAMID, 0), PYRAMID),
+    ((Format::Ply, PLY_PYRAMID, 0), PYRAMID),
+    ((Format::Off, OFF_DECIMALS, 3), DECIMALS),
 ];
 
 #[test]
 fn meshes_are_the_same_in_each_format(rt: HostRuntime) -> Result<(), Fail> {
-    for (from, to, decimals) in &WRITTEN {
-        assert_written(&rt, rt.alloc(), *from, *to, *decimals)?;
+    for (from, wanted) in &WRITTEN {
+        assert_written(&rt, rt.alloc(), *from, wanted)?;
     }
     Ok(())
 }
 
 // Texts outside the grammars, with `|` between them. In front of each stands a line with the number of its first bad line
 // and the reason.
+const OBJ_FAULTS: &[u8] = b"1 Short\nf 1 2\
+|1 Short\nv 1 2\
+|1 Long\nv 1 2 3 4 5 6 7 8\
+|1 Number\nv 1 2 1e\
+|1 Number\nv 1 +-2 3\
+|1 Number\nv x 1e9 0\
+|1 Range\nv 1e9 x 0\
+|1 Range\nv 1e999 0 0\
+|1 Range\nv 268435457 0 0\
+|1 Corner\nf 0 1 2\
+|1 Corner\nf 1// 2 3\
+|1 Corner\nf 1 2 -4\
+|1 Corner\nf 1 2 4294967296\
+|1 Continuation\nv 1 2 3 \\\
+|1 Continuation\nvt \\\
+|1 Continuation\n# \\\nl 1 2\
+|1 Unknown\nl 1 2\
+|1 Unknown\n\xef\xbb\xbfv 0 0 0\
+|4 Short\nv 0 0 0\r\n\n# f\nf 1 1\nl\
+|2 Corner\nv 0 0 0\nf 1 -1 -2\nv 0 0 0\n";
+
 const OFF_FAULTS: &[u8] = b"1 Short\n\
 |1 Unknown\nOFF 1\n\
 |2 Short\nOFF\nx\n\
@@ -206,7 +232,8 @@ fn assert_faults(
 }
 
 // The format, what stands in front of each text, and the texts.
-const FAULTS: [(Format, &str, &[u8]); 5] = [
+const FAULTS: [(Format, &str, &[u8]); 6] = [
+    (Format::Obj, "", OBJ_FAULTS),
     (Format::Off, "", OFF_FAULTS),
     (Format::Ply, "", PLY_FAULTS),
     (Format::Ply, ASCII, ASCII_FAULTS),

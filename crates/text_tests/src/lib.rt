@@ -12,8 +12,6 @@ mod lines;
 #[cfg(test)]
 mod logs;
 #[cfg(test)]
-mod objects;
-#[cfg(test)]
 mod same;
 #[cfg(test)]
 mod steps;

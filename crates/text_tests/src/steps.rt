@@ -1,19 +1,14 @@
-ghost use Rattle.std.specs.Prelude.{◌≤◌, length};
-ghost use Rattle.grid_base.specs.declared.TheConstants.{TEXT_MAX};
-
 use crate::same::{assert_bytes, assert_same};
 use line_text::{ReadFault, TextFault, TextWhy};
-use mesh_plain::FieldName;
 use std::alloc::Global;
 use std::process::Abort;
 use std::test::Fail;
-use step_text::{Directive, read_steps};
-
-// A name of 32 bytes and 31 characters.
-const LONGEST: &[u8] = b"\xc3\xa4bcdefghijklmnopqrstuvwxyz01234";
+use step_text::read_steps;
 
 const FORMS: &[u8] =
-    b"set depth 0\nset passes 100\nset zones 0\n\n# slower\r\nset halvings 27\n\tshift all -40 0 7 # all\nshift 2147483648 -40 -0 07\nstep\nsplit 0\nsplit 1073741824\nflip # edges\ncollapse 7\nzip 0\npinch\nsave\nsolid 12\ngroup\n group # inner\nclose\nclose\nfit # all";
+    b"set depth 0\nset passes 100\nset zones 0\n\n# slower\r\nset halvings 27\n\tshift all -40 0 7 # all\n\
+shift 2147483648 -40 -0 07\nstep\nsplit 0\nsplit 1073741824\nflip # edges\ncollapse 7\nzip 0\n\
+pinch\nsave\nsolid 12\ngroup\n group # inner\nclose\nclose\nfit # all";
 
 // Its lines, and the words in which what they ask for is told.
 const TOLD: &[u8] = b"1 SetDepth(0)\n2 SetPasses(100)\n3 SetZones(false)\n6 SetHalvings(27)\n\
@@ -39,21 +34,6 @@ fn told(rt: &impl Abort, alloc: Global, text: &[u8]) -> Result<Vec<u8>, ReadFaul
 fn each_form_is_read(rt: HostRuntime) -> Result<(), Fail> {
     let found = told(&rt, rt.alloc(), FORMS)?;
     assert_bytes(&rt, found.as_slice(), TOLD);
-    Ok(())
-}
-
-const DRIVES: &[u8] = b"drive swirl # round\ndrive \xc3\xa4bcdefghijklmnopqrstuvwxyz01234";
-
-const NAMES: [&[u8]; 2] = [b"swirl", LONGEST];
-
-#[test]
-fn drives_are_read(rt: HostRuntime) -> Result<(), Fail> {
-    let found = read_steps(rt.alloc(), DRIVES)?;
-    assert_same(&rt, &found.len(), &2);
-    for (found, name) in found.as_slice().iter().zip(&NAMES) {
-        let name = FieldName::new(name).expect(&rt, "a name");
-        assert!(rt; found.what == Directive::Drive { name });
-    }
     Ok(())
 }
 
@@ -136,12 +116,22 @@ const FAULTS: [(&[u8], u32, TextWhy); 57] = [
 
 // The fault of a text.
 fn fault_of(rt: &impl Abort, alloc: Global, text: &[u8]) -> Option<ReadFault> {
-    assert!(rt; text.len() < 100);
+    assert!(rt; text.len() < 1_000);
     read_steps(alloc, text).err()
 }
 
+// Groups nest to eight, and a name has 32 bytes at most, of which some may stand for one character.
+const GOOD: [&[u8]; 2] = [
+    b"group\ngroup\ngroup\ngroup\ngroup\ngroup\ngroup\ngroup\nclose\ngroup\nclose\nclose\nclose\nclose\n\
+close\nclose\nclose\nclose",
+    b"drive swirl # round\ndrive \xc3\xa4bcdefghijklmnopqrstuvwxyz01234",
+];
+
 #[test]
 fn each_reason_is_told(rt: HostRuntime) {
+    for text in &GOOD {
+        assert_same(&rt, &fault_of(&rt, rt.alloc(), text), &None);
+    }
     for (text, line, why) in &FAULTS {
         let wanted = ReadFault::Text(TextFault {
             line: *line,
@@ -149,21 +139,4 @@ fn each_reason_is_told(rt: HostRuntime) {
         });
         assert_same(&rt, &fault_of(&rt, rt.alloc(), text), &Some(wanted));
     }
-}
-
-const NESTED: &[u8] =
-    b"group\ngroup\ngroup\ngroup\ngroup\ngroup\ngroup\ngroup\nclose\ngroup\nclose\nclose\nclose\nclose\nclose\nclose\nclose\nclose";
-
-// How many directives a text has.
-fn count(rt: &impl Abort, alloc: Global, text: &[u8]) -> Result<usize, ReadFault> {
-    assert!(rt; text.len() < 1_000);
-    let found = read_steps(alloc, text)?;
-    Ok(found.len())
-}
-
-#[test]
-fn groups_nest_to_eight(rt: HostRuntime) -> Result<(), Fail> {
-    let found = count(&rt, rt.alloc(), NESTED)?;
-    assert_same(&rt, &found, &18);
-    Ok(())
 }

@@ -1,11 +1,9 @@
-//! Words, desks and sinks for the examples, runs of words, and what a run leaves behind.
-use crate::same::{assert_bytes, assert_same};
+//! Words, desks and sinks for the examples, and runs of words.
 use grid_base::{NoMemory, Point, Shift};
 use mesh_field::no_fields;
 use mesh_sizing::{Band, Sizing};
 use outside_io::{MemoryDesk, MemorySink};
 use std::alloc::Global;
-use std::process::Abort;
 use track_run::run;
 
 pub(crate) fn words_of(alloc: Global, words: &[&str]) -> Result<Vec<String>, NoMemory> {
@@ -45,31 +43,4 @@ pub(crate) fn answer(
     let sizing = Sizing::new(|_at: Point| Band { low: 1, high: 2 });
     let outcome = run(alloc, &words, desk, out, &fields, &sizing);
     Ok(outcome.status())
-}
-
-// The run of these words has this status and writes this.
-pub(crate) fn assert_run(
-    rt: &impl Abort,
-    alloc: Global,
-    words: &[&str],
-    desk: &mut MemoryDesk,
-    (status, text): (u8, &[u8]),
-) -> Result<(), NoMemory> {
-    let mut out = sink_of(alloc, &[])?;
-    let found = answer(alloc, words, desk, &mut out)?;
-    assert_same(rt, &found, &status);
-    assert_bytes(rt, out.bytes(), text);
-    Ok(())
-}
-
-// The bytes are these, and behind them those.
-pub(crate) fn assert_parts(rt: &impl Abort, found: &[u8], first: &[u8], rest: &[u8]) {
-    let at = first.len().min(found.len());
-    assert_bytes(rt, &found[..at], first);
-    assert_bytes(rt, &found[at..], rest);
-}
-
-// The desk has this file of the name; None, where it has none.
-pub(crate) fn assert_file(rt: &impl Abort, desk: &MemoryDesk, name: &str, wanted: Option<&[u8]>) {
-    assert_eq!(rt; (name, desk.file(name)), (name, wanted));
 }

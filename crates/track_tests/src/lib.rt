@@ -2,18 +2,10 @@
 #![tactic(auto)]
 
 #[cfg(test)]
-mod conversions;
-#[cfg(test)]
-mod drives;
-#[cfg(test)]
 mod ends;
 #[cfg(test)]
 mod readings;
 #[cfg(test)]
-mod refusals;
-#[cfg(test)]
 mod runs;
 #[cfg(test)]
 mod same;
-#[cfg(test)]
-mod tries;

@@ -1,240 +1,211 @@
 //! Worked examples: words that are read as a command, and words that are not.
 use crate::ends::words_of;
-use crate::same::assert_bytes;
+use crate::same::assert_same;
 use grid_base::NoMemory;
 use mesh_base::Scale;
-use std::alloc::{AllocError, Global};
+use std::alloc::Global;
 use std::process::Abort;
 use std::test::Fail;
-use track_input::{Command, LogFiles, ProofFiles, ReplayFiles, command_of};
+use track_input::{Command, LogFiles, command_of};
 
-// What stands in front of the decimals.
-fn mark(scale: Scale) -> &'static str {
-    match scale {
-        Scale::Standard => "",
-        Scale::Large => "large ",
-    }
+// What is read beside the names of files: the scale, the decimals, and which mesh alone is asked for; of a try the standard scale, how
+// many cubes stand in a row, and the key.
+type Options = (Scale, u8, Option<u32>);
+
+fn of_files(files: &LogFiles, only: Option<u32>) -> Options {
+    (files.scale, files.decimals, only)
 }
 
-fn measured(alloc: Global, word: &str, files: &LogFiles) -> Result<String, AllocError> {
-    let mark = mark(files.scale);
-    format!(in alloc;
-        "{word} {} {} {mark}{}",
-        files.mesh, files.log, files.decimals
-    )
-}
-
-fn verified(alloc: Global, given: &ProofFiles) -> Result<String, AllocError> {
-    let files = &given.files;
-    let mark = mark(files.scale);
-    format!(in alloc;
-        "verify {} {} {} {mark}{}",
-        files.mesh, files.log, given.proof, files.decimals
-    )
-}
-
-fn replayed(alloc: Global, given: &ReplayFiles) -> Result<String, AllocError> {
-    let LogFiles {
-        mesh,
-        log,
-        scale,
-        decimals,
-    } = given.files;
-    let (prefix, mark) = (given.prefix, mark(scale));
-    match given.only {
-        None => format!(in alloc; "replay {mesh} {log} {prefix} {mark}{decimals}"),
-        Some(k) => format!(in alloc; "replay {mesh} {log} {prefix} {mark}{decimals} {k}"),
-    }
-}
-
-// A command, in the words of a listed form.
-fn told(alloc: Global, command: &Command) -> Result<String, AllocError> {
+fn options_of(command: &Command) -> Options {
     match command {
         Command::Track {
-            mesh,
-            steps,
-            prefix,
             scale,
             decimals,
-        } => {
-            let mark = mark(*scale);
-            format!(in alloc; "track {mesh} {steps} {prefix} {mark}{decimals}")
+            ..
         }
-        Command::Convert {
-            from,
-            to,
+        | Command::Convert {
             scale,
             decimals,
-        } => {
-            let mark = mark(*scale);
-            format!(in alloc; "convert {} {} {mark}{decimals}", from.name, to.name)
+            ..
         }
-        Command::Try { cubes, key } => format!(in alloc; "try {cubes} {key}"),
-        Command::Measure(files) => measured(alloc, "measure", files),
-        Command::Prove(files) => measured(alloc, "prove", files),
-        Command::Verify(given) => verified(alloc, given),
-        Command::Replay(given) => replayed(alloc, given),
-        Command::Check {
-            mesh,
+        | Command::Check {
             scale,
             decimals,
-        } => {
-            let mark = mark(*scale);
-            format!(in alloc; "check {} {mark}{decimals}", mesh.name)
-        }
+            ..
+        } => (*scale, *decimals, None),
+        Command::Try { cubes, key } => (Scale::Standard, *cubes, Some(*key)),
+        Command::Measure(files) | Command::Prove(files) => of_files(files, None),
+        Command::Verify(given) => of_files(&given.files, None),
+        Command::Replay(given) => of_files(&given.files, given.only),
     }
 }
 
-// What the words are read as; `none`, where they are no command.
-fn read(alloc: Global, words: &[&str]) -> Result<String, NoMemory> {
+// What the words are read as; None, where they are no command.
+fn read(alloc: Global, words: &[&str]) -> Result<Option<Options>, NoMemory> {
     let words = words_of(alloc, words)?;
     match command_of(alloc, &words)? {
-        Some(command) => Ok(told(alloc, &command)?),
-        None => Ok(String::from_str(alloc, "none")?),
+        Some(command) => Ok(Some(options_of(&command))),
+        None => Ok(None),
     }
-}
-
-// The words are read so.
-fn assert_read(
-    rt: &impl Abort,
-    alloc: Global,
-    words: &[&str],
-    wanted: &str,
-) -> Result<(), NoMemory> {
-    let found = read(alloc, words)?;
-    assert_bytes(rt, found.as_bytes(), wanted.as_bytes());
-    Ok(())
 }
 
 // Words, and what they are read as.
-const COMMANDS: [(&[&str], &str); 30] = [
+const WORDS: [(&[&str], Option<Options>); 73] = [
     // Listed forms.
-    (&["track", "m", "s", "p"], "track m s p 0"),
+    (&["track", "m", "s", "p"], Some((Scale::Standard, 0, None))),
     (
         &["track", "m", "s", "p", "--decimals", "6"],
-        "track m s p 6",
+        Some((Scale::Standard, 6, None)),
     ),
     (
         &["convert", "m.obj", "n.ply", "--decimals", "0"],
-        "convert m.obj n.ply 0",
+        Some((Scale::Standard, 0, None)),
     ),
-    (&["try", "1", "0"], "try 1 0"),
-    (&["try", "12", "4294967295"], "try 12 4294967295"),
-    (&["measure", "m", "l"], "measure m l 0"),
-    (&["measure", "m", "l", "--decimals", "3"], "measure m l 3"),
-    (&["prove", "m", "l"], "prove m l 0"),
-    (&["verify", "m", "l", "p"], "verify m l p 0"),
+    (&["try", "1", "0"], Some((Scale::Standard, 1, Some(0)))),
+    (
+        &["try", "12", "4294967295"],
+        Some((Scale::Standard, 12, Some(4_294_967_295))),
+    ),
+    (&["measure", "m", "l"], Some((Scale::Standard, 0, None))),
+    (
+        &["measure", "m", "l", "--decimals", "3"],
+        Some((Scale::Standard, 3, None)),
+    ),
+    (&["prove", "m", "l"], Some((Scale::Standard, 0, None))),
+    (&["verify", "m", "l", "p"], Some((Scale::Standard, 0, None))),
     (
         &["verify", "m", "l", "p", "--decimals", "3"],
-        "verify m l p 3",
+        Some((Scale::Standard, 3, None)),
     ),
-    (&["replay", "m", "l", "p"], "replay m l p 0"),
+    (&["replay", "m", "l", "p"], Some((Scale::Standard, 0, None))),
     (
         &["replay", "m", "l", "p", "--decimals", "3"],
-        "replay m l p 3",
+        Some((Scale::Standard, 3, None)),
     ),
     (
         &["replay", "m", "l", "p", "--only", "4294967295"],
-        "replay m l p 0 4294967295",
+        Some((Scale::Standard, 0, Some(4_294_967_295))),
     ),
     (
         &["replay", "m", "l", "p", "--decimals", "3", "--only", "0"],
-        "replay m l p 3 0",
+        Some((Scale::Standard, 3, Some(0))),
     ),
-    (&["check", "m.obj"], "check m.obj 0"),
-    (&["check", "m.ply", "--decimals", "2"], "check m.ply 2"),
-    (&["track", "m", "s", "p", "--large"], "track m s p large 0"),
+    (&["check", "m.obj"], Some((Scale::Standard, 0, None))),
+    (
+        &["check", "m.ply", "--decimals", "2"],
+        Some((Scale::Standard, 2, None)),
+    ),
+    (
+        &["track", "m", "s", "p", "--large"],
+        Some((Scale::Large, 0, None)),
+    ),
     (
         &["verify", "m", "l", "p", "--large", "--decimals", "3"],
-        "verify m l p large 3",
+        Some((Scale::Large, 3, None)),
     ),
     (
         &["replay", "m", "l", "p", "--large", "--only", "0"],
-        "replay m l p large 0 0",
+        Some((Scale::Large, 0, Some(0))),
     ),
-    (&["check", "m.obj", "--large"], "check m.obj large 0"),
+    (
+        &["check", "m.obj", "--large"],
+        Some((Scale::Large, 0, None)),
+    ),
     // Words that are taken as these.
     (
         &["track", "--decimals", "3", "m", "s", "p"],
-        "track m s p 3",
+        Some((Scale::Standard, 3, None)),
     ),
-    (&["track", "m", "s", "p", "--decimals=3"], "track m s p 3"),
+    (
+        &["track", "m", "s", "p", "--decimals=3"],
+        Some((Scale::Standard, 3, None)),
+    ),
     (
         &["convert", "--decimals=2", "--", "m.off", "n.obj"],
-        "convert m.off n.obj 2",
+        Some((Scale::Standard, 2, None)),
     ),
     (
         &["replay", "m", "l", "p", "--only", "7", "--decimals", "2"],
-        "replay m l p 2 7",
+        Some((Scale::Standard, 2, Some(7))),
     ),
-    (&["replay", "--only=7", "m", "l", "p"], "replay m l p 0 7"),
-    (&["try", "--", "2", "7"], "try 2 7"),
+    (
+        &["replay", "--only=7", "m", "l", "p"],
+        Some((Scale::Standard, 0, Some(7))),
+    ),
+    (
+        &["try", "--", "2", "7"],
+        Some((Scale::Standard, 2, Some(7))),
+    ),
     (
         &["convert", "--large", "m.obj", "n.ply", "--decimals", "2"],
-        "convert m.obj n.ply large 2",
+        Some((Scale::Large, 2, None)),
     ),
-    (&["measure", "m", "--large", "l"], "measure m l large 0"),
+    (
+        &["measure", "m", "--large", "l"],
+        Some((Scale::Large, 0, None)),
+    ),
     (
         &["prove", "--decimals=2", "m", "l", "--large"],
-        "prove m l large 2",
+        Some((Scale::Large, 2, None)),
     ),
     (
         &["replay", "--only=7", "m", "--large", "l", "p"],
-        "replay m l p large 0 7",
+        Some((Scale::Large, 0, Some(7))),
     ),
+    // Words of no form.
+    (&[], None),
+    (&["track"], None),
+    (&["Track", "m", "s", "p"], None),
+    (&["track", "m", "s"], None),
+    (&["track", "m", "s", "p", "q"], None),
+    (&["track", "m", "", "p"], None),
+    (&["track", "m", "s", "-p"], None),
+    (&["track", "--", "m", "s", "-p"], None),
+    (&["track", "m", "s", "p", "--decimals"], None),
+    (&["track", "m", "s", "p", "--decimals", "7"], None),
+    (&["track", "m", "s", "p", "--decimals", "03"], None),
+    (&["track", "m", "s", "p", "--decimal", "3"], None),
+    (
+        &["track", "m", "s", "p", "--decimals", "3", "--decimals", "3"],
+        None,
+    ),
+    (&["track", "m", "s", "p", "--large", "--large"], None),
+    (&["track", "m", "s", "p", "--large=true"], None),
+    (&["track", "m", "s", "p", "--", "--large"], None),
+    (&["measure", "m"], None),
+    (&["measure", "m", "-l"], None),
+    (&["measure", "m", "l", "p"], None),
+    (&["prove", "m", "l", "p"], None),
+    (&["verify", "m", "l"], None),
+    (&["verify", "m", "l", "p", "q"], None),
+    (&["replay", "m", "l"], None),
+    (&["replay", "m", "l", "p", "--only"], None),
+    (&["replay", "m", "l", "p", "--only", "4294967296"], None),
+    (&["replay", "m", "l", "p", "--only", "07"], None),
+    (&["check", "m.stl"], None),
+    (&["check", "m.obj", "n.obj"], None),
+    (&["try", "2"], None),
+    (&["try", "0", "1"], None),
+    (&["try", "13", "1"], None),
+    (&["try", "02", "1"], None),
+    (&["try", "2", "-1"], None),
+    (&["try", "2", "4294967296"], None),
+    (&["try", "2", "7", "7"], None),
+    (&["try", "2", "7", "--large"], None),
+    (&["convert", "t.OBJ", "t.off"], None),
+    (&["convert", "t.obj", "t.stl"], None),
+    (&["convert", "t.obj", "-t.off"], None),
+    (&["convert", "t.obj", "off"], None),
+    (&["convert", "t.obj"], None),
+    (&["convert", "t.obj", "t.off", "--decimals", "7"], None),
+    (&["convert", "t.obj", "t.off", "t.ply"], None),
 ];
 
 #[test]
-fn words_are_read_as_commands(rt: HostRuntime) -> Result<(), Fail> {
-    for (words, wanted) in &COMMANDS {
-        assert_read(&rt, rt.alloc(), words, wanted)?;
-    }
-    Ok(())
-}
-
-const NO_COMMANDS: [&[&str]; 36] = [
-    &[],
-    &["track"],
-    &["Track", "m", "s", "p"],
-    &["track", "m", "s"],
-    &["track", "m", "s", "p", "q"],
-    &["track", "m", "", "p"],
-    &["track", "m", "s", "-p"],
-    &["track", "--", "m", "s", "-p"],
-    &["track", "m", "s", "p", "--decimals"],
-    &["track", "m", "s", "p", "--decimals", "7"],
-    &["track", "m", "s", "p", "--decimals", "03"],
-    &["track", "m", "s", "p", "--decimal", "3"],
-    &["track", "m", "s", "p", "--decimals", "3", "--decimals", "3"],
-    &["track", "m", "s", "p", "--large", "--large"],
-    &["track", "m", "s", "p", "--large=true"],
-    &["track", "m", "s", "p", "--", "--large"],
-    &["measure", "m"],
-    &["measure", "m", "-l"],
-    &["measure", "m", "l", "p"],
-    &["prove", "m", "l", "p"],
-    &["verify", "m", "l"],
-    &["verify", "m", "l", "p", "q"],
-    &["replay", "m", "l"],
-    &["replay", "m", "l", "p", "--only"],
-    &["replay", "m", "l", "p", "--only", "4294967296"],
-    &["replay", "m", "l", "p", "--only", "07"],
-    &["check", "m.stl"],
-    &["check", "m.obj", "n.obj"],
-    &["try", "2"],
-    &["try", "0", "1"],
-    &["try", "13", "1"],
-    &["try", "02", "1"],
-    &["try", "2", "-1"],
-    &["try", "2", "4294967296"],
-    &["try", "2", "7", "7"],
-    &["try", "2", "7", "--large"],
-];
-
-#[test]
-fn words_of_no_form_are_no_command(rt: HostRuntime) -> Result<(), Fail> {
-    for words in &NO_COMMANDS {
-        assert_read(&rt, rt.alloc(), words, "none")?;
+fn words_are_read_as_commands_or_as_none(rt: HostRuntime) -> Result<(), Fail> {
+    for (words, wanted) in &WORDS {
+        let found = read(rt.alloc(), words)?;
+        assert_same(&rt, &(words, found), &(words, *wanted));
     }
     Ok(())
 }
