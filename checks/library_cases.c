@@ -554,6 +554,132 @@ static void joined_and_large(void)
     topo_free(&t);
 }
 
+/* what closing the fold at an edge answers: its code, and whether that is this answer */
+static uint32_t folds(uint32_t a, uint32_t b, uint32_t why, uint32_t u, uint32_t v, int32_t x, int32_t y, int32_t z)
+{
+    struct topo_answered came = {77, 77, 77, 77, 77, 77, 77};
+    return topo_close_fold(&t, a, b, &came) == TOPO_DONE && came.why == why && came.a == u && came.b == v && came.c == 0 && came.x == x && came.y == y && came.z == z;
+}
+
+static void folds_closed(void)
+{
+    static const struct topo_point corners[] = {{0, 0, 0}, {40, 0, 0}, {0, 40, 0}, {40, 40, 0}, {0, 0, 40}, {40, 0, 40}, {0, 40, 40}, {40, 40, 40}};
+    static const struct topo_triangle box[] = {{1, 3, 4}, {1, 4, 2}, {5, 6, 8}, {5, 8, 7}, {1, 2, 6}, {1, 6, 5}, {3, 7, 8}, {3, 8, 4}, {1, 5, 7}, {1, 7, 3}, {2, 4, 8}, {2, 8, 6}};
+    /* a tube of three sides, with a waist 4 5 6 that is no face, and a vertex 10 of three faces beside its edge 4 5 */
+    static const struct topo_point around[] = {{0, 0, -40}, {40, 0, -40}, {20, 40, -40}, {0, 0, 0}, {40, 0, 0}, {20, 40, 0}, {0, 0, 40}, {40, 0, 40}, {20, 40, 40}, {27, -5, 13}};
+    static const struct topo_triangle tube[] = {{1, 3, 2}, {7, 8, 9}, {1, 2, 5}, {1, 5, 4}, {2, 3, 6}, {2, 6, 5}, {3, 1, 4}, {3, 4, 6}, {4, 5, 10}, {5, 8, 10}, {8, 4, 10}, {4, 8, 7}, {5, 6, 9}, {5, 9, 8}, {6, 4, 7}, {6, 7, 9}};
+    struct topo_answered came = {77, 77, 77, 77, 77, 77, 77};
+    is("no tracker has folds", topo_close_fold(&t, 1, 2, &came), TOPO_EMPTY);
+    is("a tetrahedron", topo_new(four, 4, sides, 4, &t, &fault), TOPO_DONE);
+    is("an id that is none", topo_close_fold(&t, 0, 2, &came), TOPO_RANGE);
+    is("two ends that are one", topo_close_fold(&t, 2, 2, &came), TOPO_RANGE);
+    is("tell nothing", came.why, 77);
+    is("no edge is no fold", folds(1, 9, TOPO_NO_EDGE, 0, 0, 0, 0, 0), 1);
+    is("and tells no line", (uint32_t)tells(""), 1);
+    is("vertex 3 is solid", topo_solid(&t, 3, &fault), TOPO_DONE);
+    is("vertex 4 too", topo_solid(&t, 4, &fault), TOPO_DONE);
+    is("they are not drawn together", folds(2, 1, TOPO_MOVES_SOLID, 0, 0, 0, 0, 0), 1);
+    is("which is taken back", (uint32_t)tells("solid 3\nsolid 4\ngroup\nno collapse 3 4 solid\nclose undone\n"), 1);
+    is("its numbers", topo_counts(&t, &counted), TOPO_DONE);
+    is("are as before", (uint32_t)(counted.vertices == 4 && counted.faces == 4 && counted.next_face == 5), 1);
+    is("a tetrahedron", topo_new(four, 4, sides, 4, &t, &fault), TOPO_DONE);
+    is("whose corners 3 and 4 are an edge is gone", folds(2, 1, 0, 3, 0, 0, 20, 20), 1);
+    is("by a collapse", (uint32_t)tells("group\ncollapse 3 4 0 20 20\nclose kept\n"), 1);
+    is("its numbers", topo_counts(&t, &counted), TOPO_DONE);
+    is("are none", (uint32_t)(counted.vertices == 0 && counted.faces == 0), 1);
+    is("a box", topo_new(corners, 8, box, 12, &t, &fault), TOPO_DONE);
+    is("is folded at a diagonal", folds(1, 4, 0, 2, 0, 20, 20, 0), 1);
+    is("by a flip and a collapse", (uint32_t)tells("group\nflip 1 4\ncollapse 2 3 20 20 0\nclose kept\n"), 1);
+    is("a tube", topo_new(around, 10, tube, 16, &t, &fault), TOPO_DONE);
+    is("whose waist would be an edge of four faces", folds(8, 10, TOPO_CROWDED, 4, 6, 0, 0, 0), 1);
+    is("stays", (uint32_t)tells("group\ncollapse 4 5 20 0 0\nclose undone\n"), 1);
+    is("its numbers", topo_counts(&t, &counted), TOPO_DONE);
+    is("are as before", (uint32_t)(counted.vertices == 10 && counted.faces == 16 && counted.next_face == 17), 1);
+    is("a group", topo_open(&t, &fault), TOPO_DONE);
+    is("does not fail by that", folds(8, 10, TOPO_CROWDED, 4, 6, 0, 0, 0), 1);
+    is("so that it is closed", topo_close(&t, &kept, &fault), TOPO_DONE);
+    is("and kept", kept, TOPO_KEPT);
+    topo_free(&t);
+}
+
+/* the vertices and the faces of the tracker as points and triangles, whose corners are counted among its vertices */
+static size_t in_order(struct topo_point *at, struct topo_triangle *corners)
+{
+    size_t i, k;
+    for (i = 0; i < point_count; ++i) {
+        at[i].x = points[i].x;
+        at[i].y = points[i].y;
+        at[i].z = points[i].z;
+    }
+    for (i = 0; i < face_count; ++i) {
+        corners[i].a = corners[i].b = corners[i].c = 1;
+        for (k = 0; k < point_count; ++k) {
+            corners[i].a += points[k].id < faces[i].a;
+            corners[i].b += points[k].id < faces[i].b;
+            corners[i].c += points[k].id < faces[i].c;
+        }
+    }
+    return face_count;
+}
+
+/* splits, collapses and moves, and answers what is told of that */
+static const char *changed(void)
+{
+    static char text[4096];
+    is("a step", topo_step(&t, &way, &fault), TOPO_DONE);
+    is("splits", topo_split(&t, 25, &edits, &fault), TOPO_DONE);
+    is("some", (uint32_t)(edits.done > 0), 1);
+    is("fits", topo_fit(&t, 12, 22, &edits), TOPO_DONE);
+    is("what is told", topo_log(&t, text, sizeof text - 1, &size), TOPO_DONE);
+    text[size] = 0;
+    return text;
+}
+
+static void renumbered(void)
+{
+    static char dense[4096];
+    static struct topo_point at[16];
+    static struct topo_triangle corners[16];
+    static const uint32_t ranks[] = {1, 2, 3, 4, 5, 6, 7};
+    uint32_t vertex[8], side[16], i;
+    for (i = 0; i < 8; ++i)
+        vertex[i] = side[i] = 77;
+    is("no tracker has ids", topo_renumber(&t, vertex, 8, side, 16), TOPO_EMPTY);
+    begin();
+    leave();
+    is("the last vertex is asked to move", topo_shift(&t, points[6].id, 1, 0, 2, &fault), TOPO_DONE);
+    is("no room for the vertices", topo_renumber(&t, vertex, 6, side, 16), TOPO_RANGE);
+    is("nor for the faces", topo_renumber(&t, vertex, 8, side, 9), TOPO_RANGE);
+    is("a group", topo_open(&t, &fault), TOPO_DONE);
+    is("is open", topo_renumber(&t, vertex, 8, side, 16), TOPO_GROUPED);
+    is("which tells nothing", (uint32_t)(vertex[0] == 77 && side[0] == 77), 1);
+    is("it is closed", topo_close(&t, &kept, &fault), TOPO_DONE);
+    is("the lines of the group", (uint32_t)tells("group\nclose kept\n"), 1);
+    is("dense ids", topo_renumber(&t, vertex, 8, side, 16), TOPO_DONE);
+    is("tell no line", (uint32_t)tells(""), 1);
+    for (i = 0; i < 7; ++i)
+        is("which vertex it was", vertex[i], points[i].id);
+    is("and no more", vertex[7], 77);
+    for (i = 0; i < 10; ++i)
+        is("which face it was", side[i], faces[i].id);
+    in_order(at, corners);
+    leave();
+    is("are from 1 on", (uint32_t)(point_count == 7 && face_count == 10 && counted.next_vertex == 8 && counted.next_face == 11), 1);
+    for (i = 0; i < 7; ++i)
+        is("each vertex where it stood", (uint32_t)(points[i].id == ranks[i] && points[i].x == at[i].x && points[i].y == at[i].y && points[i].z == at[i].z), 1);
+    for (i = 0; i < 10; ++i)
+        is("each face with its corners", (uint32_t)(faces[i].id == i + 1 && faces[i].a == corners[i].a && faces[i].b == corners[i].b && faces[i].c == corners[i].c), 1);
+    is("and the solid one", (uint32_t)(solid_count == 1 && solids[0] == 1), 1);
+    strcpy(dense, changed());
+    is("what was asked is asked of it by its new id", (uint32_t)(strncmp(dense, "step 1\nmove 7 1 0 2\n", 20) == 0), 1);
+    is("a tracker of the same points and faces", topo_new(at, 7, corners, 10, &t, &fault), TOPO_DONE);
+    is("with the same solid vertex", topo_solid(&t, 1, &fault), TOPO_DONE);
+    is("and the same asked", topo_shift(&t, 7, 1, 0, 2, &fault), TOPO_DONE);
+    is("is told", topo_forget(&t), TOPO_DONE);
+    is("goes on with the same lines", (uint32_t)(strcmp(dense, changed()) == 0), 1);
+    topo_free(&t);
+}
+
 static void alone(void)
 {
     /* an edge through the middle of a triangle, and beside it */
@@ -597,6 +723,8 @@ int main(void)
     stars();
     components();
     joined_and_large();
+    folds_closed();
+    renumbered();
     alone();
     printf("%d hold, %d do not\n", held, failed);
     return failed != 0;

@@ -4,3 +4,5 @@ pub mod Faults
 pub mod Owned
 pub mod Tellings
 pub mod Components
+pub mod Folded
+pub mod Renumbered

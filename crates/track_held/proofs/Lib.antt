@@ -7,3 +7,10 @@ pub mod Fitted
 pub mod NumberedFaults
 pub mod PutAnswers
 pub mod EditRanges
+pub mod Crowded
+pub mod FoldRanges
+pub mod ByKeys
+pub mod RankOrder
+pub mod WithSolids
+pub mod Densely
+pub mod Grouped

@@ -9,3 +9,7 @@ pub mod Events
 pub mod Fitting
 pub mod Numbered
 pub mod Editing
+pub mod Folds
+pub mod Folding
+pub mod Ranked
+pub mod Dense
