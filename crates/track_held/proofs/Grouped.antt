@@ -19,12 +19,12 @@ use Rattle.track_held.specs.Folding.{is_refused, crowded_after, are_clean, finis
 
 -- ---- what an effect tells
 
-lines_in : Effect → List LogLine
+abbrev lines_in : Effect → List LogLine
 lines_in (Proceeds lines next) = lines
 lines_in (Refused why) = []
 lines_in (Unanswered lines) = []
 
-next_in : State → Effect → State
+abbrev next_in : State → Effect → State
 next_in s (Proceeds lines next) = next
 next_in s (Refused why) = s
 next_in s (Unanswered lines) = s

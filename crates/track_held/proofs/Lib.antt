@@ -14,3 +14,4 @@ pub mod RankOrder
 pub mod WithSolids
 pub mod Densely
 pub mod Grouped
+pub mod FoldChosen

@@ -12,7 +12,7 @@ ghost use Rattle.track_held.specs.Folding.{untold, are_clean, finish_effect, las
 ghost use Rattle.track_held.specs.Folds.{fold_edits, fold_vertex};
 
 use crate::editing_given::{ToldAnswer, answer_told, reason_at, why_told};
-use crate::folds::{are_joined, first_crowded, fold_at, fold_collapse, fold_vertex};
+use crate::folds::{are_joined, first_crowded, fold_at, fold_collapse, fold_flip, fold_vertex};
 use crate::held::Held;
 use edit_base::{Asked, Edit, EdgeFaces};
 use mesh_base::{Surface, VertexId};
@@ -155,7 +155,7 @@ impl<S: Surface> Held<S> {
         if are_joined(&self.engine.mesh, &e) {
             return self.edits_as_one(alloc, &[collapse], v);
         }
-        let flip = Asked::Flip { a: e.a, b: e.b };
+        let flip = fold_flip(&e);
         self.edits_as_one(alloc, &[flip, collapse], v)
     }
 

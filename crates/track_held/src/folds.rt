@@ -3,6 +3,7 @@ ghost use Rattle.std.specs.Prelude.{◌≡◌, min, max, None, Some, IfOk, IfErr
 ghost use Rattle.mesh_base.specs.Sides.{IsClosed};
 ghost use Rattle.mesh_base.specs.Pairs.{is_edge};
 ghost use Rattle.edit_base.specs.Edges.{edge_of};
+ghost use Rattle.edit_base.specs.declared.Asked.TheVariants.{Flip};
 ghost use Rattle.track_held.specs.Folds.{fold_why, fold_collapse, fold_vertex, crowded_corner, crowded_among, first_crowded, FindsCrowded, FoldsAskInRange};
 
 use edit_base::{Asked, EdgeFaces, Why, edge_beside, is_crowded, is_edge};
@@ -40,6 +41,13 @@ pub(crate) fn fold_collapse(e: &EdgeFaces) -> Asked
     } else {
         Asked::Collapse { a: e.d, b: e.c }
     }
+}
+
+/// The flip of an edge.
+pub(crate) fn fold_flip(e: &EdgeFaces) -> Asked
+    ensures { result ≡ Flip e.now.a e.now.b }
+{
+    Asked::Flip { a: e.a, b: e.b }
 }
 
 /// The vertex into which it draws them.
