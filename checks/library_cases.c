@@ -602,84 +602,6 @@ static void folds_closed(void)
     topo_free(&t);
 }
 
-/* the vertices and the faces of the tracker as points and triangles, whose corners are counted among its vertices */
-static size_t in_order(struct topo_point *at, struct topo_triangle *corners)
-{
-    size_t i, k;
-    for (i = 0; i < point_count; ++i) {
-        at[i].x = points[i].x;
-        at[i].y = points[i].y;
-        at[i].z = points[i].z;
-    }
-    for (i = 0; i < face_count; ++i) {
-        corners[i].a = corners[i].b = corners[i].c = 1;
-        for (k = 0; k < point_count; ++k) {
-            corners[i].a += points[k].id < faces[i].a;
-            corners[i].b += points[k].id < faces[i].b;
-            corners[i].c += points[k].id < faces[i].c;
-        }
-    }
-    return face_count;
-}
-
-/* splits, collapses and moves, and answers what is told of that */
-static const char *changed(void)
-{
-    static char text[4096];
-    is("a step", topo_step(&t, &way, &fault), TOPO_DONE);
-    is("splits", topo_split(&t, 25, &edits, &fault), TOPO_DONE);
-    is("some", (uint32_t)(edits.done > 0), 1);
-    is("fits", topo_fit(&t, 12, 22, &edits), TOPO_DONE);
-    is("what is told", topo_log(&t, text, sizeof text - 1, &size), TOPO_DONE);
-    text[size] = 0;
-    return text;
-}
-
-static void renumbered(void)
-{
-    static char dense[4096];
-    static struct topo_point at[16];
-    static struct topo_triangle corners[16];
-    static const uint32_t ranks[] = {1, 2, 3, 4, 5, 6, 7};
-    uint32_t vertex[8], side[16], i;
-    for (i = 0; i < 8; ++i)
-        vertex[i] = side[i] = 77;
-    is("no tracker has ids", topo_renumber(&t, vertex, 8, side, 16), TOPO_EMPTY);
-    begin();
-    leave();
-    is("the last vertex is asked to move", topo_shift(&t, points[6].id, 1, 0, 2, &fault), TOPO_DONE);
-    is("no room for the vertices", topo_renumber(&t, vertex, 6, side, 16), TOPO_RANGE);
-    is("nor for the faces", topo_renumber(&t, vertex, 8, side, 9), TOPO_RANGE);
-    is("a group", topo_open(&t, &fault), TOPO_DONE);
-    is("is open", topo_renumber(&t, vertex, 8, side, 16), TOPO_GROUPED);
-    is("which tells nothing", (uint32_t)(vertex[0] == 77 && side[0] == 77), 1);
-    is("it is closed", topo_close(&t, &kept, &fault), TOPO_DONE);
-    is("the lines of the group", (uint32_t)tells("group\nclose kept\n"), 1);
-    is("dense ids", topo_renumber(&t, vertex, 8, side, 16), TOPO_DONE);
-    is("tell no line", (uint32_t)tells(""), 1);
-    for (i = 0; i < 7; ++i)
-        is("which vertex it was", vertex[i], points[i].id);
-    is("and no more", vertex[7], 77);
-    for (i = 0; i < 10; ++i)
-        is("which face it was", side[i], faces[i].id);
-    in_order(at, corners);
-    leave();
-    is("are from 1 on", (uint32_t)(point_count == 7 && face_count == 10 && counted.next_vertex == 8 && counted.next_face == 11), 1);
-    for (i = 0; i < 7; ++i)
-        is("each vertex where it stood", (uint32_t)(points[i].id == ranks[i] && points[i].x == at[i].x && points[i].y == at[i].y && points[i].z == at[i].z), 1);
-    for (i = 0; i < 10; ++i)
-        is("each face with its corners", (uint32_t)(faces[i].id == i + 1 && faces[i].a == corners[i].a && faces[i].b == corners[i].b && faces[i].c == corners[i].c), 1);
-    is("and the solid one", (uint32_t)(solid_count == 1 && solids[0] == 1), 1);
-    strcpy(dense, changed());
-    is("what was asked is asked of it by its new id", (uint32_t)(strncmp(dense, "step 1\nmove 7 1 0 2\n", 20) == 0), 1);
-    is("a tracker of the same points and faces", topo_new(at, 7, corners, 10, &t, &fault), TOPO_DONE);
-    is("with the same solid vertex", topo_solid(&t, 1, &fault), TOPO_DONE);
-    is("and the same asked", topo_shift(&t, 7, 1, 0, 2, &fault), TOPO_DONE);
-    is("is told", topo_forget(&t), TOPO_DONE);
-    is("goes on with the same lines", (uint32_t)(strcmp(dense, changed()) == 0), 1);
-    topo_free(&t);
-}
-
 static void alone(void)
 {
     /* an edge through the middle of a triangle, and beside it */
@@ -724,7 +646,6 @@ int main(void)
     components();
     joined_and_large();
     folds_closed();
-    renumbered();
     alone();
     printf("%d hold, %d do not\n", held, failed);
     return failed != 0;

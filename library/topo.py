@@ -28,7 +28,7 @@ except ImportError:
     numpy = None
 
 u32, i32, size_t, ref = ctypes.c_uint32, ctypes.c_int32, ctypes.c_size_t, ctypes.byref
-DONE, NO_MEMORY, REFUSED, RANGE, EMPTY, STOPPED, SPENT, UNREAD, GROUPED = range(9)
+DONE, NO_MEMORY, REFUSED, RANGE, EMPTY, STOPPED, SPENT, UNREAD = range(8)
 WAYS = ("whole", "impulse", "zones", "halved", "zero")
 GROUPS = ("none", "kept", "taken back")
 EVENTS = ("", "moved", "split", "flipped", "collapsed", "zipped", "pinched", "solid", "opened", "kept", "undone")
@@ -45,7 +45,6 @@ CODES = {
     STOPPED: "an earlier directive had no memory: the tracker can be read and freed, no more",
     SPENT: "2^32 - 1 steps were taken",
     UNREAD: "what was told is not read as lines, or is too long",
-    GROUPED: "a group is open",
 }
 REASONS = {
     1: "no live vertex has the id {a}",
@@ -88,7 +87,7 @@ Asked = struct("Asked", kind_a_b_c_d=u32)
 Answered = struct("Answered", why_a_b_c=u32, x_y_z=i32)
 
 CALLS = ("topo_new topo_new_numbered topo_free topo_shift_each topo_shift_all topo_set topo_step topo_split topo_collapse topo_flip topo_zip topo_pinch topo_fit topo_edit_each "
-         "topo_close_fold topo_solid topo_open topo_close topo_undo topo_renumber topo_counts topo_points topo_faces topo_star topo_beside topo_components topo_solids topo_events "
+         "topo_close_fold topo_solid topo_open topo_close topo_undo topo_counts topo_points topo_faces topo_star topo_beside topo_components topo_solids topo_events "
          "topo_log topo_forget topo_version topo_calls").split()
 
 Component = collections.namedtuple("Component", "vertex faces euler volume")
@@ -450,14 +449,6 @@ class Tracker:
         """Takes back the group that was opened last, whatever was done in it, and tells whether one was open: a word of GROUPS."""
         self.call("topo_undo", ref(self.kept))
         return GROUPS[self.kept.value]
-
-    def renumber(self):
-        """Makes the ids dense, from 1 on in their order, and tells which the vertices and the faces had, in two lists: the first is that of the one that is 1
-        now. What was told before goes by the old ids, so the log is to be taken first."""
-        counts = self.counts()
-        vertices, faces = (u32 * counts["vertices"])(), (u32 * counts["faces"])()
-        self.call("topo_renumber", vertices, size_t(len(vertices)), faces, size_t(len(faces)))
-        return list(vertices), list(faces)
 
     def forget(self):
         self.call("topo_forget")

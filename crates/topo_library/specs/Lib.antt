@@ -5,4 +5,3 @@ pub mod Owned
 pub mod Tellings
 pub mod Components
 pub mod Folded
-pub mod Renumbered

@@ -16,5 +16,3 @@ pub(crate) const STOPPED: u32 = 5;
 pub(crate) const SPENT: u32 = 6;
 /// What was told is not read: it is no whole lines, or too long.
 pub(crate) const UNREAD: u32 = 7;
-/// A group is open.
-pub(crate) const GROUPED: u32 = 8;

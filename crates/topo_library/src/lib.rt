@@ -22,7 +22,6 @@ ghost use Rattle.track_held.specs.Reading.{named_points, named_faces, solid_vert
 ghost use Rattle.track_held.specs.Numbered.{given_rows};
 ghost use Rattle.track_held.specs.Editing.{ends};
 ghost use Rattle.topo_library.specs.Folded.{HandleHasClosedFold};
-ghost use Rattle.topo_library.specs.Renumbered.{HandleHasRenumbered};
 ghost use Rattle.topo_library.specs.Components.{told_components};
 ghost use Rattle.topo_library.specs.Codes.{tracked, HandleHasDone, HandleHasTold, IsBeyond, AreSettings, HandleHasSet, HandleHasFitted, HandleHasWritten, HandleHasEdited, HandleHasShifted, HandleHasShiftedAll, HandleHasShiftedEach, HasMade, HasMadeNumbered, HandleHasPut, HandleHasPutEvents, HandleHasForgotten, HandleHasTakenLog, HandleHasCounted};
 ghost use Rattle.topo_library.specs.Tellings.{way_told, edits_told, closing_of, undone_of, settings_at, band_of};
@@ -40,7 +39,6 @@ mod making;
 mod making_numbered;
 mod owned;
 mod reading;
-mod renumbering;
 mod settings;
 mod telling;
 mod tracker;
@@ -62,7 +60,6 @@ use reading::{
     count, forget_log, read_beside, read_components, read_events, read_faces, read_log,
     read_points, read_solids, read_star,
 };
-use renumbering::renumber;
 use settings::{band_of, settings_at};
 use std::alloc::Global;
 use step_text::Directive;
@@ -379,22 +376,6 @@ pub extern "C" fn topo_close_fold(
         answer.old answer.new result }
 {
     close_fold(alloc, topo, a, b, answer)
-}
-
-/// Makes the ids dense: the live vertices and the live faces are numbered from 1 in their order, and the next ids are one above the greatest; all
-/// else stays. The buffers then begin with the ids that the vertices and the faces had: the first is that of the one that is 1 now, and so on.
-/// Where one of them is too short, or a group is open, nothing is done. Nothing is told of it: what is told from here on goes by the new ids.
-#[unsafe(no_mangle)]
-pub extern "C" fn topo_renumber(
-    alloc: Global,
-    topo: &mut Topo,
-    vertices: &mut [u32],
-    faces: &mut [u32],
-) -> u32
-    ensures { HandleHasRenumbered topo.old.owned.value topo.new.owned.value
-        vertices.old vertices.new faces.old faces.new result }
-{
-    renumber(alloc, topo, vertices, faces)
 }
 
 /// Makes a vertex solid: it does not move from here on, unless the group in which this is done is taken back. An id that no vertex may have is

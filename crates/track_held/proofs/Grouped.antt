@@ -125,19 +125,18 @@ module _ (asked : List Asked) (v : ℕ) (s : State) where
       group_done w =
           let third = ends_there (Ok None) w in
           let P : Bool → Type 0 = λ k. Writes (Proceeds (whole k) (after k)) s3 a d (Ok None) in
-          subst P clean_there
-              (
-                whole keep,
-                ap (Proceeds (whole keep)) (sym (done_state (Close keep ∷ []) (after keep) s3 c d third)),
-                written_then a b d (GroupLine ∷ []) (lines ++ Close keep ∷ []) first (written_then b c d lines (Close keep ∷ []) second (done_lines (Close keep ∷ []) (after keep) s3 c d third)),
-              )
+          subst P clean_there (
+            whole keep,
+            ap (Proceeds (whole keep)) (sym (done_state (Close keep ∷ []) (after keep) s3 c d third)),
+            written_then a b d (GroupLine ∷ []) (lines ++ Close keep ∷ []) first (written_then b c d lines (Close keep ∷ []) second (done_lines (Close keep ∷ []) (after keep) s3 c d third)),
+          )
 
       -- it stops in the last line
       pub stops_at_end : (t : State) (stop : Stop) → Writes (finish_effect keep s2.groups s2) s3 c d (Err stop) → Writes (group_effect asked v s) t a d (Err stop)
       stops_at_end t stop w =
           let P : Bool → Type 0 = λ k. Writes (Proceeds (whole k) (after k)) t a d (Err stop) in
           subst P clean_there
-              (inr (whole keep, after keep, refl, part_then a b d (GroupLine ∷ []) (lines ++ Close keep ∷ []) first (part_then b c d lines (Close keep ∷ []) second (stops_in (Close keep ∷ []) (after keep) s3 c d stop (ends_there (Err stop) w)))))
+          (inr (whole keep, after keep, refl, part_then a b d (GroupLine ∷ []) (lines ++ Close keep ∷ []) first (part_then b c d lines (Close keep ∷ []) second (stops_in (Close keep ∷ []) (after keep) s3 c d stop (ends_there (Err stop) w)))))
 
   -- it stops in the first line
   pub stops_at_first : (s1 t : State) (a b : Text) (stop : Stop) → Writes (Proceeds (GroupLine ∷ []) (opened s)) s1 a b (Err stop) → Writes (group_effect asked v s) t a b (Err stop)

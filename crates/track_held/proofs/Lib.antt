@@ -9,9 +9,5 @@ pub mod PutAnswers
 pub mod EditRanges
 pub mod Crowded
 pub mod FoldRanges
-pub mod ByKeys
-pub mod RankOrder
-pub mod WithSolids
-pub mod Densely
 pub mod Grouped
 pub mod FoldChosen

@@ -11,5 +11,3 @@ pub mod Numbered
 pub mod Editing
 pub mod Folds
 pub mod Folding
-pub mod Ranked
-pub mod Dense

@@ -14,7 +14,7 @@ ghost use Rattle.track_held.specs.Folds.{fold_edits, fold_vertex};
 use crate::editing_given::{ToldAnswer, answer_told, reason_at, why_told};
 use crate::folds::{are_joined, first_crowded, fold_at, fold_collapse, fold_flip, fold_vertex};
 use crate::held::Held;
-use edit_base::{Asked, Edit, EdgeFaces};
+use edit_base::{Asked, EdgeFaces, Edit};
 use mesh_base::{Surface, VertexId};
 use outside_io::Stop;
 use pass_run::Answers;

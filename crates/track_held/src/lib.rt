@@ -14,19 +14,16 @@ mod folds;
 mod given;
 mod growing;
 mod held;
-mod ids;
 mod making;
 mod making_numbered;
-mod ranking;
 mod reading;
-mod renumbering;
 mod telling;
 
 pub use asked::{asking, asking_all};
 pub use closing::Closing;
 pub use editing_given::{
-    AskedEdits, GivenEdit, ToldAnswer, answer_told, edge_ends, edit_asked, edits_asked, put_answers,
-    rows_ask_in_range,
+    AskedEdits, GivenEdit, ToldAnswer, answer_told, edge_ends, edit_asked, edits_asked,
+    put_answers, rows_ask_in_range,
 };
 pub use events::{Event, EventRefusal, Events, told_events};
 pub use folds::folds_ask_in_range;
@@ -35,7 +32,6 @@ pub use growing::GrowingSink;
 pub use held::Held;
 pub use making::{MakeFault, MakeRefusal, track};
 pub use making_numbered::{NumberedFault, NumberedRefusal, track_numbered};
-pub use ids::{IdNumbers, face_numbers, vertex_numbers};
 pub use reading::{
     NamedFaces, NamedPoints, beside_edge, named_faces, named_points, put_rows, solid_vertices,
     star_of,

@@ -1,6 +1,0 @@
-use Rattle.std.proofs.Common.{◌≡◌, ◌++◌, drop}
-use Rattle.track_held.proofs.ids.of_vertices.Given as goal
-
--- the numbers so far and those to come are all
-abbrev pub invariant-loop-v : goal.invariant-loop-v
-invariant-loop-v l = l.numbers ++ drop l.v-index l.ids ≡ l.ids
