@@ -563,6 +563,54 @@ static void joined_and_large(void)
     topo_free(&t);
 }
 
+/* what closing the fold at an edge answers: its code, and whether that is this answer */
+static uint32_t folds(uint32_t a, uint32_t b, uint32_t why, uint32_t u, uint32_t v, int32_t x, int32_t y, int32_t z)
+{
+    struct topo_answered came = {77, 77, 77, 77, 77, 77, 77};
+    return topo_close_fold(&t, a, b, &came) == TOPO_DONE && came.why == why && came.a == u && came.b == v && came.c == 0 && came.x == x && came.y == y && came.z == z;
+}
+
+static void folds_closed(void)
+{
+    static const struct topo_point corners[] = {{0, 0, 0}, {40, 0, 0}, {0, 40, 0}, {40, 40, 0}, {0, 0, 40}, {40, 0, 40}, {0, 40, 40}, {40, 40, 40}};
+    static const struct topo_triangle box[] = {{1, 3, 4}, {1, 4, 2}, {5, 6, 8}, {5, 8, 7}, {1, 2, 6}, {1, 6, 5}, {3, 7, 8}, {3, 8, 4}, {1, 5, 7}, {1, 7, 3}, {2, 4, 8}, {2, 8, 6}};
+    /* a tube of three sides, with a waist 4 5 6 that is no face, and a vertex 10 of three faces beside its edge 4 5 */
+    static const struct topo_point around[] = {{0, 0, -40}, {40, 0, -40}, {20, 40, -40}, {0, 0, 0}, {40, 0, 0}, {20, 40, 0}, {0, 0, 40}, {40, 0, 40}, {20, 40, 40}, {27, -5, 13}};
+    static const struct topo_triangle tube[] = {{1, 3, 2}, {7, 8, 9}, {1, 2, 5}, {1, 5, 4}, {2, 3, 6}, {2, 6, 5}, {3, 1, 4}, {3, 4, 6}, {4, 5, 10}, {5, 8, 10}, {8, 4, 10}, {4, 8, 7}, {5, 6, 9}, {5, 9, 8}, {6, 4, 7}, {6, 7, 9}};
+    struct topo_answered came = {77, 77, 77, 77, 77, 77, 77};
+    is("no tracker has folds", topo_close_fold(&t, 1, 2, &came), TOPO_EMPTY);
+    is("a tetrahedron", topo_new(four, 4, sides, 4, &t, &fault), TOPO_DONE);
+    is("an id that is none", topo_close_fold(&t, 0, 2, &came), TOPO_RANGE);
+    is("two ends that are one", topo_close_fold(&t, 2, 2, &came), TOPO_RANGE);
+    is("tell nothing", came.why, 77);
+    is("no edge is no fold", folds(1, 9, TOPO_NO_EDGE, 0, 0, 0, 0, 0), 1);
+    is("and tells no line", (uint32_t)tells(""), 1);
+    is("vertex 3 is solid", topo_solid(&t, 3, &fault), TOPO_DONE);
+    is("vertex 4 too", topo_solid(&t, 4, &fault), TOPO_DONE);
+    is("they are not drawn together", folds(2, 1, TOPO_MOVES_SOLID, 0, 0, 0, 0, 0), 1);
+    is("which is taken back", (uint32_t)tells("solid 3\nsolid 4\ngroup\nno collapse 3 4 solid\nclose undone\n"), 1);
+    is("its numbers", topo_counts(&t, &counted), TOPO_DONE);
+    is("are as before", (uint32_t)(counted.vertices == 4 && counted.faces == 4 && counted.next_face == 5), 1);
+    is("a tetrahedron", topo_new(four, 4, sides, 4, &t, &fault), TOPO_DONE);
+    is("whose corners 3 and 4 are an edge is gone", folds(2, 1, 0, 3, 0, 0, 20, 20), 1);
+    is("by a collapse", (uint32_t)tells("group\ncollapse 3 4 0 20 20\nclose kept\n"), 1);
+    is("its numbers", topo_counts(&t, &counted), TOPO_DONE);
+    is("are none", (uint32_t)(counted.vertices == 0 && counted.faces == 0), 1);
+    is("a box", topo_new(corners, 8, box, 12, &t, &fault), TOPO_DONE);
+    is("is folded at a diagonal", folds(1, 4, 0, 2, 0, 20, 20, 0), 1);
+    is("by a flip and a collapse", (uint32_t)tells("group\nflip 1 4\ncollapse 2 3 20 20 0\nclose kept\n"), 1);
+    is("a tube", topo_new(around, 10, tube, 16, &t, &fault), TOPO_DONE);
+    is("whose waist would be an edge of four faces", folds(8, 10, TOPO_CROWDED, 4, 6, 0, 0, 0), 1);
+    is("stays", (uint32_t)tells("group\ncollapse 4 5 20 0 0\nclose undone\n"), 1);
+    is("its numbers", topo_counts(&t, &counted), TOPO_DONE);
+    is("are as before", (uint32_t)(counted.vertices == 10 && counted.faces == 16 && counted.next_face == 17), 1);
+    is("a group", topo_open(&t, &fault), TOPO_DONE);
+    is("does not fail by that", folds(8, 10, TOPO_CROWDED, 4, 6, 0, 0, 0), 1);
+    is("so that it is closed", topo_close(&t, &kept, &fault), TOPO_DONE);
+    is("and kept", kept, TOPO_KEPT);
+    topo_free(&t);
+}
+
 static void alone(void)
 {
     /* an edge through the middle of a triangle, and beside it */
@@ -606,6 +654,7 @@ int main(void)
     stars();
     components();
     joined_and_large();
+    folds_closed();
     alone();
     printf("%d hold, %d do not\n", held, failed);
     return failed != 0;

@@ -86,7 +86,8 @@ Asked = struct("Asked", kind_a_b_c_d=u32)
 Answered = struct("Answered", why_a_b_c=u32, x_y_z=i32)
 
 CALLS = ("topo_new topo_new_numbered topo_free topo_shift_each topo_shift_all topo_set topo_step topo_split topo_collapse topo_flip topo_zip topo_pinch topo_fit topo_edit_each "
-         "topo_solid topo_open topo_close topo_undo topo_counts topo_points topo_faces topo_star topo_beside topo_components topo_solids topo_events topo_log topo_forget topo_keep topo_version topo_calls").split()
+         "topo_close_fold topo_solid topo_open topo_close topo_undo topo_counts topo_points topo_faces topo_star topo_beside topo_components topo_solids topo_events "
+         "topo_log topo_forget topo_keep topo_version topo_calls").split()
 
 Component = collections.namedtuple("Component", "vertex faces euler volume")
 Answer = collections.namedtuple("Answer", "why a b c at")
@@ -423,6 +424,14 @@ class Tracker:
         """One edit by ids, and its Answer."""
         why, a, b, c, *at = self.edit_each([(word, *ids)]).tolist()[0]
         return Answer(AGAINST[why], a, b, c, self.from_grid(at) if why == 0 and word in ("split", "collapse", "pinch") else None)
+
+    def close_fold(self, a, b):
+        """Closes the fold at an edge with the faces a b c and b a d: it is flipped, and c and d are drawn together, whole or not at all. Its Answer is the
+        collapse's, or the first reason against it; of "crowded" a and b are the ends of the edge that would be so, or 0, where the edge itself is."""
+        ids, answer = [u32(whole(v, 1, ID_MAX, "an id")) for v in (a, b)], Answered()
+        self.call("topo_close_fold", *ids, ref(answer))
+        at = self.from_grid((answer.x, answer.y, answer.z)) if answer.why == 0 else None
+        return Answer(AGAINST[answer.why], answer.a, answer.b, answer.c, at)
 
     def solid(self, vertex):
         self.call("topo_solid", u32(whole(vertex, 1, ID_MAX, "an id")), ref(self.fault))

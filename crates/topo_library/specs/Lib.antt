@@ -4,3 +4,4 @@ pub mod Faults
 pub mod Owned
 pub mod Tellings
 pub mod Components
+pub mod Folded

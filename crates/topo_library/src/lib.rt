@@ -21,6 +21,8 @@ ghost use Rattle.track_engine.specs.Effects.{undo_effect};
 ghost use Rattle.track_held.specs.Events.{log_events};
 ghost use Rattle.track_held.specs.Reading.{named_points, named_faces, solid_vertices, star_of, beside_edge};
 ghost use Rattle.track_held.specs.Numbered.{given_rows};
+ghost use Rattle.track_held.specs.Editing.{ends};
+ghost use Rattle.topo_library.specs.Folded.{HandleHasClosedFold};
 ghost use Rattle.topo_library.specs.Components.{told_components};
 ghost use Rattle.topo_library.specs.Codes.{tracked, lines_told, HandleHasDone, HandleHasTold, IsBeyond, AreSettings, HandleHasSet, HandleHasFitted, HandleHasWritten, HandleHasEdited, HandleHasShifted, HandleHasShiftedAll, HandleHasShiftedEach, HasMade, HasMadeNumbered, HandleHasPut, HandleHasForgotten, HandleHasKept, HandleHasTakenLog, HandleHasCounted};
 ghost use Rattle.topo_library.specs.Tellings.{way_told, edits_told, closing_of, undone_of, settings_at, band_of};
@@ -31,6 +33,7 @@ mod codes;
 mod components;
 mod editing;
 mod fault;
+mod folding;
 mod handle;
 mod loose;
 mod making;
@@ -48,6 +51,7 @@ use components::TopoComponent;
 use edit_base::PassKind;
 use editing::{edit_each, undo};
 use fault::TopoFault;
+use folding::close_fold;
 use grid_base::{ID_MAX, LENGTH_MAX};
 use handle::Topo;
 use log_text::VERSION;
@@ -355,6 +359,24 @@ pub extern "C" fn topo_edit_each(
         answers.old answers.new taken.old taken.new result }
 {
     edit_each(alloc, topo, asked, answers, taken)
+}
+
+/// Closes the fold at an edge with two faces, `a b c` and `b a d`, and tells what came of it: the edge is flipped to `c d`, which is then
+/// collapsed; where `c d` is an edge already, it is only collapsed. It is done whole or not at all: it is a group of its own, which is taken back
+/// where one of the edits is refused, or where the vertex that is left would have an edge along which more than one face runs one way. Where the
+/// edge is no fold, nothing is done, and nothing is told to the log. Ids that no vertex may have, or that are one, are beyond their limit.
+#[unsafe(no_mangle)]
+pub extern "C" fn topo_close_fold(
+    alloc: Global,
+    topo: &mut Topo,
+    a: u32,
+    b: u32,
+    answer: &mut ToldAnswer,
+) -> u32
+    ensures { HandleHasClosedFold (ends a b) topo.old.owned.value topo.new.owned.value
+        answer.old answer.new result }
+{
+    close_fold(alloc, topo, a, b, answer)
 }
 
 /// Makes a vertex solid: it does not move from here on, unless the group in which this is done is taken back. An id that no vertex may have is

@@ -7,3 +7,7 @@ pub mod Fitted
 pub mod NumberedFaults
 pub mod PutAnswers
 pub mod EditRanges
+pub mod Crowded
+pub mod FoldRanges
+pub mod Grouped
+pub mod FoldChosen

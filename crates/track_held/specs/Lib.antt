@@ -8,3 +8,5 @@ pub mod Events
 pub mod Fitting
 pub mod Numbered
 pub mod Editing
+pub mod Folds
+pub mod Folding

@@ -42,8 +42,8 @@ fn is_id(v: u32) -> bool
     1 <= v && v <= ID_MAX
 }
 
-// The ends of an edge, the smaller first; None where one may not be an id, or both are one.
-fn ends(a: u32, b: u32) -> Option<(u32, u32)>
+/// The ends of an edge, the smaller first; None where one may not be an id, or both are one.
+pub fn edge_ends(a: u32, b: u32) -> Option<(u32, u32)>
     ensures { result ≡ ends a b }
 {
     if is_id(a) && is_id(b) {
@@ -133,13 +133,13 @@ pub fn edit_asked(row: &GivenEdit) -> Option<Asked>
     ensures { result ≡ edit_asked row.now }
 {
     if row.kind == 2 {
-        split_of(ends(row.a, row.b))
+        split_of(edge_ends(row.a, row.b))
     } else if row.kind == 3 {
-        flip_of(ends(row.a, row.b))
+        flip_of(edge_ends(row.a, row.b))
     } else if row.kind == 4 {
-        collapse_of(ends(row.a, row.b))
+        collapse_of(edge_ends(row.a, row.b))
     } else if row.kind == 5 {
-        zip_of(ends(row.a, row.b), ends(row.c, row.d))
+        zip_of(edge_ends(row.a, row.b), edge_ends(row.c, row.d))
     } else if row.kind == 6 {
         pinch_of(row.a)
     } else {
@@ -201,8 +201,8 @@ fn first_copy(copies: &Copies) -> u32
     }
 }
 
-// A reason, with its place.
-fn reason_at(why: u32, a: u32, b: u32, c: u32) -> ToldAnswer
+/// A reason, with its place.
+pub(crate) fn reason_at(why: u32, a: u32, b: u32, c: u32) -> ToldAnswer
     ensures { result ≡ reason_at why a b c }
 {
     ToldAnswer {
@@ -216,8 +216,8 @@ fn reason_at(why: u32, a: u32, b: u32, c: u32) -> ToldAnswer
     }
 }
 
-// A reason against an edit.
-fn why_told(why: Why) -> ToldAnswer
+/// A reason against an edit.
+pub(crate) fn why_told(why: Why) -> ToldAnswer
     ensures { result ≡ why_told why }
 {
     match why {

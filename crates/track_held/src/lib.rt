@@ -9,6 +9,8 @@ mod editing;
 mod editing_given;
 mod events;
 mod fitting;
+mod folding;
+mod folds;
 mod given;
 mod held;
 mod making;
@@ -19,10 +21,11 @@ mod telling;
 pub use asked::{asking, asking_all};
 pub use closing::Closing;
 pub use editing_given::{
-    AskedEdits, GivenEdit, ToldAnswer, answer_told, edit_asked, edits_asked, put_answers,
-    rows_ask_in_range,
+    AskedEdits, GivenEdit, ToldAnswer, answer_told, edge_ends, edit_asked, edits_asked,
+    put_answers, rows_ask_in_range,
 };
 pub use events::{Event, Events, events_of};
+pub use folds::folds_ask_in_range;
 pub use given::{GivenFace, GivenPoint, NamedFace, NamedPoint};
 pub use held::Held;
 pub use making::{MakeFault, MakeRefusal, track};
