@@ -1,5 +1,5 @@
 -- Where no crowded edge is found at a vertex, it has none.
-use Rattle.std.proofs.Common.{◌≡◌, ◌⊎◌, ℕ, ◌+◌, ◌<◌, ◌==◌, ◌&&◌, ◌||◌, Bool, true, false, cond, nat_lt, List, [], ◌∷◌, Option, Some, None, refl, ap, sym, ◌∙◌, subst, eqb-true, inl, inr, ⊎_elim, arith}
+use Rattle.std.proofs.Common.{◌≡◌, ◌⊎◌, ℕ, ◌<◌, ◌==◌, ◌||◌, Bool, true, false, cond, nat_lt, List, [], ◌∷◌, Option, Some, None, refl, ap, sym, ◌∙◌, subst, eqb-true, inl, inr, ⊎_elim, arith}
 use Rattle.std.specs.List.{find, AllByRecursion}
 use Rattle.std.specs.Option.{option_or, option_map_or}
 use Rattle.std.specs.FinMap as finite
@@ -9,7 +9,7 @@ use Rattle.mesh_base.specs.Mesh.{Mesh, HasCorners}
 use Rattle.mesh_base.specs.Changes.{corner_list}
 use Rattle.mesh_base.specs.Sides.{runs, follows, has_corner, faces_at}
 use Rattle.mesh_base.specs.Pairs.{is_crowded}
-use Rattle.mesh_base.proofs.Listed.{all_map, all_filter, at_key, running_face, and_first, and_second, or_either}
+use Rattle.mesh_base.proofs.Listed.{all_map, all_filter, at_key, running_face, or_either}
 use Rattle.track_held.specs.Folds.{crowded_corner, crowded_among, first_crowded, FindsCrowded}
 
 -- no corner of a face has a crowded edge with the vertex

@@ -1,5 +1,5 @@
 -- The edits that are asked to close a fold, and what its closing is, by what is found of its edge.
-use Rattle.std.proofs.Common.{◌≡◌, ℕ, Bool, true, false, cond, min, max, List, [], ◌∷◌, Option, Some, None, sym, ap, ◌∙◌}
+use Rattle.std.proofs.Common.{◌≡◌, ℕ, Bool, true, false, cond, min, max, [], ◌∷◌, Some, None, sym, ap, ◌∙◌}
 use Rattle.mesh_base.specs.Mesh.{Mesh}
 use Rattle.mesh_base.specs.Pairs.{is_edge}
 use Rattle.edit_base.specs.declared.Asked.{Asked}
@@ -10,7 +10,6 @@ use Rattle.track_engine.specs.State.{State}
 use Rattle.track_engine.specs.Effects.{Proceeds, opened}
 use Rattle.track_held.specs.Folds.{fold_why, fold_collapse, fold_edits, fold_vertex}
 use Rattle.track_held.specs.Folding.{group_effect, group_told, unless_why, told_unless_why, fold_effect, fold_told}
-use Rattle.track_held.specs.Editing.{why_told}
 
 -- the corners opposite the edge are an edge already
 pub only_collapsed : (m : Mesh) (e : Edge) (collapse : Asked) (joined : Bool) → collapse ≡ fold_collapse e → joined ≡ is_edge m (min e.c e.d) (max e.c e.d) → joined ≡ true → collapse ∷ [] ≡ fold_edits m e

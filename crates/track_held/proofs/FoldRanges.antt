@@ -1,22 +1,20 @@
 -- What closing a fold asks is in the ranges of the log.
-use Rattle.std.proofs.Common.{◌≡◌, ◌≢◌, ◌⊎◌, ℕ, ◌+◌, ◌<◌, ◌≤◌, ◌==◌, Bool, true, false, cond, not, min, max, List, [], ◌∷◌, Option, Some, None, refl, sym, ap, eqb-true, ⊎_elim, arith}
+use Rattle.std.proofs.Common.{◌≡◌, ℕ, ◌==◌, Bool, true, false, cond, not, min, max, [], ◌∷◌, refl, sym, arith}
 use Rattle.std.specs.List.{AllByRecursion}
 use Rattle.std.proofs.lemmas.Bool.Decides.{nat_tests}
 use Rattle.grid_base.specs.declared.TheConstants.{ID_MAX}
 use Rattle.mesh_base.specs.Mesh.{Mesh, IsSound, IsLiveVertex}
-use Rattle.mesh_base.specs.Sides.{IsClosed}
 use Rattle.mesh_base.specs.Pairs.{is_edge, is_crowded}
-use Rattle.edit_base.specs.declared.Asked.{Asked}
 use Rattle.edit_base.specs.declared.Asked.TheVariants as asked
 use Rattle.edit_base.specs.declared.Why.TheVariants.{NoEdge, Crowded}
 use Rattle.edit_base.specs.declared.Why.TheVariants.{Edge as IsAnEdge}
 use Rattle.edit_base.specs.Edges.{Edge, edge_of}
 use Rattle.edit_base.specs.Beside.{IsBeside}
-use Rattle.edit_base.specs.Reasons.{reason_if, first_reason}
+use Rattle.edit_base.specs.Reasons.{reason_if}
 use Rattle.edit_base.proofs.Beside.{beside_of}
 use Rattle.edit_base.proofs.ReasonLaws.{none_first, does_not_hold}
 use Rattle.log_read.specs.Laws.{IsFrom, IsEdgeInRange, IsAskedInRange}
-use Rattle.track_held.specs.Folds.{fold_why, fold_collapse, fold_edits, FoldsAskInRange}
+use Rattle.track_held.specs.Folds.{fold_collapse, fold_edits, FoldsAskInRange}
 
 live_fits : (m : Mesh) (v : ℕ) → IsSound m → IsLiveVertex m v → IsFrom 1 ID_MAX v
 live_fits m v sound live =

@@ -1,11 +1,10 @@
 -- A group of edits that is kept where it leaves no crowded edge at a vertex; and how a fold is closed.
-use Rattle.std.specs.Prelude.{ℕ, pos, ◌&&◌, Bool, not, is_some, nat_lt, List, [], ◌∷◌, ◌++◌, Option, Some, None, Result, Ok, Err, if◌then◌else◌}
+use Rattle.std.specs.Prelude.{ℕ, ◌&&◌, Bool, not, is_some, nat_lt, List, [], ◌∷◌, ◌++◌, Option, Some, None, Result, Ok, Err, if◌then◌else◌}
 use Rattle.mesh_base.specs.declared.UseWhy.{UseWhy}
 use Rattle.edit_base.specs.declared.Asked.{Asked}
 use Rattle.edit_base.specs.declared.Edit.{Edit}
 use Rattle.edit_base.specs.declared.Why.{Why}
 use Rattle.edit_base.specs.Edges.{edge_of}
-use Rattle.log_text.specs.declared.LogLine.{LogLine}
 use Rattle.log_text.specs.declared.LogLine.TheVariants.{Group as GroupLine, Close}
 use Rattle.outside_io.specs.declared.stop.Stop.{Stop}
 use Rattle.pass_run.specs.PassLines.{refused_in}

@@ -1,5 +1,5 @@
 -- An edge whose two faces are to be drawn together, as pages of a book at its back.
-use Rattle.std.specs.Prelude.{◌≡◌, ℕ, ◌==◌, not, Bool, false, List, [], ◌∷◌, Option, None, min, max, if◌then◌else◌}
+use Rattle.std.specs.Prelude.{◌≡◌, ℕ, ◌==◌, not, false, List, [], ◌∷◌, Option, None, min, max, if◌then◌else◌}
 use Rattle.std.specs.Option.{option_or, option_map_or}
 use Rattle.std.specs.List.{find, AllByRecursion}
 use Rattle.std.specs.FinMap as finite

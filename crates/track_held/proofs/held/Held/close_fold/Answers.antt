@@ -1,4 +1,4 @@
-use Rattle.std.proofs.Common.{◌≡◌, [], Some, IfOk, refl, sym, subst}
+use Rattle.std.proofs.Common.{◌≡◌, [], IfOk, refl, sym, subst}
 use Rattle.outside_io.proofs.Written.{appended-nil}
 use Rattle.track_engine.specs.Effects.{Effect}
 use Rattle.track_engine.specs.Engines.{state_in}

@@ -1,4 +1,4 @@
-use Rattle.std.proofs.Common.{◌≡◌, ℕ, List, [], ◌∷◌, Some, IfOk, subst}
+use Rattle.std.proofs.Common.{◌≡◌, ℕ, List, IfOk, subst}
 use Rattle.edit_base.specs.declared.Asked.{Asked}
 use Rattle.track_engine.specs.Effects.{opened}
 use Rattle.track_engine.specs.Engines.{state_in}

@@ -1,4 +1,4 @@
-use Rattle.std.proofs.Common.{Some, [], ◌∷◌}
+use Rattle.std.proofs.Common.{[], ◌∷◌}
 use Rattle.log_text.specs.declared.LogLine.TheVariants.{Group as GroupLine}
 use Rattle.track_engine.specs.Effects.{opened}
 use Rattle.track_engine.specs.Engines.{state_in}

@@ -1,4 +1,4 @@
-use Rattle.std.proofs.Common.{Bool, Some, Err, sym, subst}
+use Rattle.std.proofs.Common.{Bool, Err, sym, subst}
 use Rattle.track_engine.specs.Engines.{state_in}
 use Rattle.track_engine.specs.Parts.{Writes}
 use Rattle.track_held.specs.Folding.{finish_effect}

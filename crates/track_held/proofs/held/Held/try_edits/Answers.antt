@@ -1,4 +1,3 @@
-use Rattle.std.proofs.Common.{Some}
 use Rattle.outside_io.specs.declared.stop.Stop.TheVariants.{NoMemory}
 use Rattle.track_engine.specs.Engines.{state_in}
 use Rattle.track_engine.specs.Effects.{edited_lines, after_edits}
