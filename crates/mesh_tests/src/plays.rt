@@ -186,7 +186,7 @@ fn is_told(answer: &Answer, want: Want) -> bool {
 }
 
 /// Whether the corners live and differ, and no face runs along the first side.
-fn is_fresh<S: Surface>(surface: &S, a: VertexId, b: VertexId, c: VertexId) -> bool
+pub(crate) fn is_fresh<S: Surface>(surface: &S, a: VertexId, b: VertexId, c: VertexId) -> bool
     ensures { result ≡ true →
         IsFresh (S.mesh surface.now) (record { first = a; second = b; third = c }) }
 {
@@ -282,7 +282,7 @@ fn play_rows<S: Surface>(rt: &impl Abort, alloc: Global, surface: &mut S) -> Res
 }
 
 // The lists of the tetrahedron, whose shape is good.
-fn shaped(rt: &impl Abort, alloc: Global) -> Result<MeshLists, NoMemory>
+pub(crate) fn shaped(rt: &impl Abort, alloc: Global) -> Result<MeshLists, NoMemory>
     ensures { IfOk result (λ lists. shape_fault Standard (length lists.points) lists.faces ≡ None) }
 {
     let lists = tetrahedron(alloc)?;
