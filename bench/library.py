@@ -1,8 +1,9 @@
 #!/usr/bin/env python3
-"""Measures steps through the library against steps by files: cubes that go there and back, 20,736 faces.
+"""Measures steps through the library, with the log, with events and with no lines, against steps by files: cubes that go there and back,
+20,736 faces.
 
-Prints the processor time of a step and the most memory of both, and how they stand to one another; the logs have to be the same. What
-making the tracker costs is taken off, by a job of no step.
+Prints the processor time of a step and the most memory of each, and how the library with the log stands to files; the logs have to be the
+same. What making the tracker costs is taken off, by a job of no step.
 """
 
 import os
@@ -37,12 +38,13 @@ def main():
         found = {}
         for steps in (0, count):
             put_steps(folder, there_and_back(len(points), steps))
-            found["library", steps] = min(cost([driver, str(row), str(steps)], folder, "library.log") for _ in range(words.best_of))
+            for way, what in (("library", "log"), ("events", "events"), ("no lines", "none")):
+                found[way, steps] = min(cost([driver, str(row), str(steps), what], folder, f"{way}.log") for _ in range(words.best_of))
             found["files", steps] = min(cost([words.program, "track", "mesh.obj", "steps.txt", "t"], folder, "files.log") for _ in range(words.best_of))
         with open(os.path.join(folder, "library.log"), "rb") as one, open(os.path.join(folder, "files.log"), "rb") as other:
             same = one.read() == other.read()
     each = {}
-    for way in ("library", "files"):
+    for way in ("library", "events", "no lines", "files"):
         each[way] = (found[way, count][0] - found[way, 0][0]) / count
         print(f"{way}: {1000 * each[way]:.1f} ms a step; {found[way, count][0]:.2f} s and {found[way, count][1]:.0f} MB for {count} steps; {found[way, 0][0]:.2f} s for none")
     print(f"a step {each['library'] / each['files']:.2f}, memory {found['library', count][1] / found['files', count][1]:.2f}; the logs are {'the same' if same else 'NOT the same'}")

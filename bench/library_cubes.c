@@ -1,11 +1,12 @@
-/* N * N * N cubes that go there and back through the library: prints the log of the job.
+/* N * N * N cubes that go there and back through the library: prints the log of the job; or reads events in its place, or keeps no lines.
 
-       library_cubes N STEPS
+       library_cubes N STEPS [log | events | none]
  */
 #include "topo.h"
 
 #include <stdio.h>
 #include <stdlib.h>
+#include <string.h>
 
 static void must(uint32_t code, const struct topo_fault *fault)
 {
@@ -27,6 +28,8 @@ int main(int count, char **words)
     struct topo t = TOPO_NONE;
     struct topo_fault fault = {0, 0, 0, 0};
     struct topo_way way;
+    const char *what = count > 3 ? words[3] : "log";
+    struct topo_event *events = 0;
     char *text = 0;
     size_t room = 0, size = 0, c, v, f = 0;
     int k, i;
@@ -46,6 +49,8 @@ int main(int count, char **words)
         }
     }
     must(topo_new(points, vertices, sides, faces, &t, &fault), &fault);
+    if (!strcmp(what, "none"))
+        must(topo_keep(&t, 0), &fault);
     printf("topo log %u\nmesh 0 %lu %lu\n", (unsigned)topo_version(), (unsigned long)vertices, (unsigned long)faces);
     for (k = 0; k < steps; ++k) {
         for (v = 0; v < vertices; ++v) {
@@ -57,6 +62,18 @@ int main(int count, char **words)
         }
         must(topo_shift_each(&t, asked, vertices, &fault), &fault);
         must(topo_step(&t, &way, &fault), &fault);
+        if (!strcmp(what, "none"))
+            continue;
+        if (!strcmp(what, "events")) {
+            while (topo_events(&t, events, room, &size) == TOPO_RANGE) {
+                free(events);
+                events = malloc((room = size) * sizeof *events);
+                if (!events)
+                    return 2;
+            }
+            must(topo_forget(&t), &fault);
+            continue;
+        }
         while (topo_log(&t, text, room, &size) == TOPO_RANGE) {
             free(text);
             text = malloc(room = size);
@@ -68,6 +85,7 @@ int main(int count, char **words)
     puts("end");
     topo_free(&t);
     free(text);
+    free(events);
     free(points);
     free(sides);
     free(asked);

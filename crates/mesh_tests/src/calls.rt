@@ -1,17 +1,15 @@
 //! Worked examples of the calls of a mesh, on each kind of mesh, and of those that only one kind has.
-ghost use Rattle.std.specs.Prelude.{◌≡◌, ◌≤◌, true, IfOk, OnOk, None, length};
+ghost use Rattle.std.specs.Prelude.{◌≡◌, ◌≤◌, true, OnOk};
 ghost use Rattle.mesh_base.specs.Changes.{IsFresh};
 ghost use Rattle.mesh_base.specs.Kept.{BeginsWith};
-ghost use Rattle.mesh_base.specs.declared.limits.Scale.TheVariants.{Standard};
 ghost use Rattle.mesh_journal.specs.Journal.{spare_in};
-ghost use Rattle.mesh_plain.specs.Shape.{shape_fault};
 
 use crate::meshes::{SIDES, TETRAHEDRON};
-use crate::plays::{is_fresh, shaped};
+use crate::plays::{half_edges, is_fresh, journal, shaped};
 use crate::same::assert_same;
 use grid_base::{NoMemory, Point};
 use half_mesh::HalfMesh;
-use mesh_base::{AddFault, FaceId, MeshLists, Scale, Surface, VertexId};
+use mesh_base::{AddFault, FaceId, Scale, Surface, VertexId};
 use mesh_journal::JournalMesh;
 use mesh_plain::PlainMesh;
 use std::alloc::Global;
@@ -65,7 +63,10 @@ fn assert_tetrahedron<S: Surface>(rt: &impl Abort, mesh: &S) {
     }
 }
 
-// The faces at the vertex 1. Then it is placed below, and the face 1 is dropped.
+// The faces at the vertex 1.
+const AT_ONE: [FaceId; 3] = [FaceId(1), FaceId(2), FaceId(4)];
+
+// What is told of them. Then it is placed below, and the face 1 is dropped.
 fn placed_and_dropped<S: Surface>(
     alloc: Global,
     mesh: &mut S,
@@ -86,7 +87,7 @@ fn assert_calls<S: Surface>(rt: &impl Abort, alloc: Global, mesh: &mut S) -> Res
     assert_same(rt, &made, &(VertexId(5), FaceId(5)));
     assert_tetrahedron(rt, mesh);
     let faces = placed_and_dropped(alloc, mesh, rt)?;
-    assert!(rt; faces.as_slice() == &[FaceId(1), FaceId(2), FaceId(4)]);
+    assert!(rt; faces.as_slice() == AT_ONE.as_slice());
     assert_same(rt, &counts(mesh), &[4, 3, 5, 5]);
     assert_same(
         rt,
@@ -96,16 +97,10 @@ fn assert_calls<S: Surface>(rt: &impl Abort, alloc: Global, mesh: &mut S) -> Res
     Ok(())
 }
 
-#[test]
-fn each_mesh_answers_alike(rt: HostRuntime) -> Result<(), Fail> {
-    let lists = shaped(&rt, rt.alloc())?;
-    let mut plain = PlainMesh::of(rt.alloc(), Scale::Standard, &lists)?;
-    assert_calls(&rt, rt.alloc(), &mut plain)?;
-    let mut half = HalfMesh::of(rt.alloc(), Scale::Standard, &lists)?;
-    assert_calls(&rt, rt.alloc(), &mut half)?;
-    let mut journal = JournalMesh::of(rt.alloc(), Scale::Standard, &lists)?;
-    assert_calls(&rt, rt.alloc(), &mut journal)?;
-    Ok(())
+// The face across a side is the one beside it.
+fn assert_across(rt: &impl Abort, half: &HalfMesh) {
+    assert!(rt; half.corners(FaceId(2)).is_some());
+    assert_same(rt, &half.across(FaceId(2), 0), &Some((FaceId(1), 2)));
 }
 
 // Memory for three changes.
@@ -115,19 +110,30 @@ fn reserve_three(journal: &mut JournalMesh) -> Result<(), NoMemory>
     journal.reserve(3)
 }
 
+fn plain(rt: &impl Abort, alloc: Global) -> Result<PlainMesh, NoMemory> {
+    let lists = shaped(rt, alloc)?;
+    PlainMesh::of(alloc, Scale::Standard, &lists)
+}
+
 #[test]
-fn a_journal_finds_memory_for_changes(rt: HostRuntime) -> Result<(), Fail> {
-    let lists = shaped(&rt, rt.alloc())?;
-    let mut journal = JournalMesh::of(rt.alloc(), Scale::Standard, &lists)?;
-    assert_same(&rt, &reserve_three(&mut journal), &Ok(()));
+fn plain_meshes_are_called(rt: HostRuntime) -> Result<(), Fail> {
+    let mut plain = plain(&rt, rt.alloc())?;
+    assert_calls(&rt, rt.alloc(), &mut plain)?;
     Ok(())
 }
 
 #[test]
-fn the_face_across_is_the_one_beside(rt: HostRuntime) -> Result<(), Fail> {
-    let lists = shaped(&rt, rt.alloc())?;
-    let half = HalfMesh::of(rt.alloc(), Scale::Standard, &lists)?;
-    assert!(&rt; half.corners(FaceId(2)).is_some());
-    assert_same(&rt, &half.across(FaceId(2), 0), &Some((FaceId(1), 2)));
+fn half_edges_are_called(rt: HostRuntime) -> Result<(), Fail> {
+    let mut half = half_edges(&rt, rt.alloc())?;
+    assert_across(&rt, &half);
+    assert_calls(&rt, rt.alloc(), &mut half)?;
+    Ok(())
+}
+
+#[test]
+fn journals_are_called(rt: HostRuntime) -> Result<(), Fail> {
+    let mut journal = journal(&rt, rt.alloc(), 5, 5)?;
+    assert_same(&rt, &reserve_three(&mut journal), &Ok(()));
+    assert_calls(&rt, rt.alloc(), &mut journal)?;
     Ok(())
 }

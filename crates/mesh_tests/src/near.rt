@@ -82,11 +82,16 @@ fn assert_all_near(alloc: Global, journal: &JournalMesh, rt: &impl Abort) -> Res
     Ok(())
 }
 
+// Without an index, and with one.
+fn assert_both(alloc: Global, journal: &mut JournalMesh, rt: &impl Abort) -> Result<(), NoMemory> {
+    assert_all_near(alloc, journal, rt)?;
+    journal.index();
+    assert_all_near(alloc, journal, rt)
+}
+
 #[test]
 fn a_box_that_touches_is_near(rt: HostRuntime) -> Result<(), Fail> {
     let mut journal = journal(rt.alloc(), &rt)?;
-    assert_all_near(rt.alloc(), &journal, &rt)?;
-    journal.index();
-    assert_all_near(rt.alloc(), &journal, &rt)?;
+    assert_both(rt.alloc(), &mut journal, &rt)?;
     Ok(())
 }

@@ -6,7 +6,7 @@ ghost use Rattle.mesh_plain.specs.Shape.{shape_fault};
 ghost use Rattle.mesh_play.specs.Play.{IsAllowed};
 
 use crate::meshes::tetrahedron;
-use grid_base::{NoMemory, Point};
+use grid_base::{ID_MAX, NoMemory, Point};
 use half_mesh::HalfMesh;
 use mesh_base::{FaceId, FaceIds, MeshLists, Scale, Surface, VertexId};
 use mesh_journal::JournalMesh;
@@ -290,28 +290,41 @@ pub(crate) fn shaped(rt: &impl Abort, alloc: Global) -> Result<MeshLists, NoMemo
     Ok(lists)
 }
 
+pub(crate) fn half_edges(rt: &impl Abort, alloc: Global) -> Result<HalfMesh, NoMemory> {
+    let lists = shaped(rt, alloc)?;
+    HalfMesh::of(alloc, Scale::Standard, &lists)
+}
+
+// A journal with these next ids.
+pub(crate) fn journal(
+    rt: &impl Abort,
+    alloc: Global,
+    next_vertex: u32,
+    next_face: u32,
+) -> Result<JournalMesh, NoMemory> {
+    let lists = shaped(rt, alloc)?;
+    assert!(rt; lists.points.len() < next_vertex as usize && next_vertex <= ID_MAX + 1);
+    assert!(rt; lists.faces.len() < next_face as usize && next_face <= ID_MAX + 1);
+    JournalMesh::of_numbered(alloc, Scale::Standard, &lists, next_vertex, next_face)
+}
+
 #[test]
 fn half_edges_answer_and_go_back(rt: HostRuntime) -> Result<(), Fail> {
-    let lists = shaped(&rt, rt.alloc())?;
-    let mut half = HalfMesh::of(rt.alloc(), Scale::Standard, &lists)?;
+    let mut half = half_edges(&rt, rt.alloc())?;
     play_rows(&rt, rt.alloc(), &mut half)?;
     Ok(())
 }
 
 #[test]
 fn journals_answer_and_go_back(rt: HostRuntime) -> Result<(), Fail> {
-    let lists = shaped(&rt, rt.alloc())?;
-    let mut journal = JournalMesh::of(rt.alloc(), Scale::Standard, &lists)?;
+    let mut journal = journal(&rt, rt.alloc(), 5, 5)?;
     play_rows(&rt, rt.alloc(), &mut journal)?;
     Ok(())
 }
 
 #[test]
 fn the_last_ids_are_given(rt: HostRuntime) -> Result<(), Fail> {
-    let lists = shaped(&rt, rt.alloc())?;
-    assert_eq!(&rt; (lists.points.len(), lists.faces.len()), (4, 4));
-    let alloc = rt.alloc();
-    let mut journal = JournalMesh::of_numbered(alloc, Scale::Standard, &lists, 2_147_483_649, 5)?;
-    play_row(&rt, alloc, &mut journal, &FULL)?;
+    let mut journal = journal(&rt, rt.alloc(), ID_MAX + 1, 5)?;
+    play_row(&rt, rt.alloc(), &mut journal, &FULL)?;
     Ok(())
 }

@@ -3,13 +3,13 @@
 use crate::kept_lists::shifts_of;
 use crate::meshes::beside;
 use crate::same::assert_same;
-use grid_base::{BOX, NoMemory};
+use grid_base::{BOX, DEPTH_MAX, HALVINGS_MAX, NoMemory};
 use mesh_base::{FaceId, How, PairName, Surface, VertexId};
 use pair_scan::first_meeting;
 use std::alloc::Global;
 use std::process::Abort;
 use std::test::Fail;
-use step_choose::{Settings, choose};
+use step_choose::{PASSES_MAX, Settings, choose};
 use step_zones::zones;
 
 // What is asked along x of the vertex 8 of two tetrahedra and then of each from 1 to 7. The vertex 5 goes into the face 1, where its
@@ -34,40 +34,41 @@ const HITS: [PairName; 3] = [
     },
 ];
 
-// How the step is taken, after so many passes at most and by zones or not.
+// How the step is taken.
 fn chosen<S: Surface>(
     alloc: Global,
     mesh: &S,
-    passes: u8,
-    zones: bool,
+    set: &Settings,
     rt: &impl Abort,
 ) -> Result<How, NoMemory> {
-    let set = Settings {
-        depth: 6,
-        passes,
-        zones,
-        halvings: 6,
-    };
+    assert!(rt; set.depth <= DEPTH_MAX && set.passes <= PASSES_MAX && set.halvings <= HALVINGS_MAX);
     let met = first_meeting(alloc, mesh)?;
     assert!(rt; met.is_none());
     let asked = shifts_of(alloc, mesh, &INTO, &[0; 8], rt)?;
-    let choice = choose(alloc, mesh, &asked, &set)?;
+    let choice = choose(alloc, mesh, &asked, set)?;
     assert!(rt; choice.hits.as_slice() == HITS.as_slice());
     Ok(choice.how)
 }
 
-// How many passes, whether zones are tried, and how the step is taken.
-const CASES: [(u8, bool, How); 3] = [
-    (3, true, How::Impulse { passes: 1 }),
-    (0, true, How::Zones { rounds: 1 }),
-    (0, false, How::Halved { times: 1 }),
-];
+// By the first settings; by halvings alone.
+fn cases() -> [(Settings, How); 2] {
+    let halvings = Settings {
+        depth: 6,
+        passes: 0,
+        zones: false,
+        halvings: 6,
+    };
+    [
+        (Settings::at_first(), How::Impulse { passes: 1 }),
+        (halvings, How::Halved { times: 1 }),
+    ]
+}
 
 #[test]
 fn a_step_is_chosen(rt: HostRuntime) -> Result<(), Fail> {
     let mesh = beside(rt.alloc(), 0, &rt)?;
-    for (passes, zones, how) in &CASES {
-        let found = chosen(rt.alloc(), &mesh, *passes, *zones, &rt)?;
+    for (set, how) in &cases() {
+        let found = chosen(rt.alloc(), &mesh, set, &rt)?;
         assert_same(&rt, &found, how);
     }
     Ok(())

@@ -42,7 +42,7 @@ impl AskedShifts {
     }
 
     /// These shifts are asked, whose ids rise. Takes no memory.
-    pub(crate) fn of_all(shifts: Shifts) -> AskedShifts
+    pub fn of_all(shifts: Shifts) -> AskedShifts
         requires { IsStrictlySortedBy nat_cmp (map (λ s. s.v) shifts) }
         ensures { result ≡ shifts }
     {

@@ -34,6 +34,7 @@ pub use open_group::OpenGroup;
 pub use open_groups::OpenGroups;
 pub use run_state::RunState;
 pub use saving::file_name;
+pub use shifting::asked_in;
 pub use target::Target;
 pub use terms::RunTerms;
 pub use told::StepTold;

@@ -78,7 +78,7 @@ fn still_asked<S: Surface>(mesh: &S, asked: &AskedShifts, v: VertexId) -> ShiftO
 }
 
 /// What is asked of each live vertex of a mesh, by rising id, and nothing of one that is solid.
-pub(crate) fn asked_in<S: Surface>(
+pub fn asked_in<S: Surface>(
     alloc: Global,
     mesh: &S,
     asked: &AskedShifts,
