@@ -191,7 +191,7 @@ const TRIANGLE: [[i32; 3]; 3] = [[0, 0, 0], [40, 0, 0], [0, 4, 0]];
 const BOTH_SIDES: [[u32; 3]; 2] = [[1, 2, 3], [1, 3, 2]];
 
 // Two tetrahedra with the vertex 1 in common, and the same with the second a quarter as wide, and with both.
-const PAIR: [[i32; 3]; 7] = [
+pub(crate) const PAIR: [[i32; 3]; 7] = [
     [0, 0, 0],
     [8, 0, 0],
     [8, 4, 0],
@@ -221,7 +221,7 @@ const BOTH_SMALL: [[i32; 3]; 7] = [
     [-2, 0, 1],
 ];
 
-const PAIR_FACES: [[u32; 3]; 8] = [
+pub(crate) const PAIR_FACES: [[u32; 3]; 8] = [
     [1, 3, 2],
     [1, 2, 4],
     [2, 3, 4],

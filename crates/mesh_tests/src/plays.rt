@@ -186,7 +186,7 @@ fn is_told(answer: &Answer, want: Want) -> bool {
 }
 
 /// Whether the corners live and differ, and no face runs along the first side.
-fn is_fresh<S: Surface>(surface: &S, a: VertexId, b: VertexId, c: VertexId) -> bool
+pub(crate) fn is_fresh<S: Surface>(surface: &S, a: VertexId, b: VertexId, c: VertexId) -> bool
     ensures { result ≡ true →
         IsFresh (S.mesh surface.now) (record { first = a; second = b; third = c }) }
 {
@@ -282,7 +282,7 @@ fn play_rows<S: Surface>(rt: &impl Abort, alloc: Global, surface: &mut S) -> Res
 }
 
 // The lists of the tetrahedron, whose shape is good.
-fn shaped(rt: &impl Abort, alloc: Global) -> Result<MeshLists, NoMemory>
+pub(crate) fn shaped(rt: &impl Abort, alloc: Global) -> Result<MeshLists, NoMemory>
     ensures { IfOk result (λ lists. shape_fault Standard (length lists.points) lists.faces ≡ None) }
 {
     let lists = tetrahedron(alloc)?;
@@ -290,13 +290,13 @@ fn shaped(rt: &impl Abort, alloc: Global) -> Result<MeshLists, NoMemory>
     Ok(lists)
 }
 
-fn half_edges(rt: &impl Abort, alloc: Global) -> Result<HalfMesh, NoMemory> {
+pub(crate) fn half_edges(rt: &impl Abort, alloc: Global) -> Result<HalfMesh, NoMemory> {
     let lists = shaped(rt, alloc)?;
     HalfMesh::of(alloc, Scale::Standard, &lists)
 }
 
 // A journal with these next ids.
-fn journal(
+pub(crate) fn journal(
     rt: &impl Abort,
     alloc: Global,
     next_vertex: u32,

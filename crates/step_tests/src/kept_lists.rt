@@ -18,16 +18,16 @@ use std::process::Abort;
 use std::test::Fail;
 use step_lists::{KeptList, StepLists};
 
-// A shift of a vertex along x, and none of a solid one.
-fn shift_of<S: Surface>(mesh: &S, v: VertexId, x: i32, rt: &impl Abort) -> ShiftOf
+// A shift of a vertex along x and up, and none of a solid one.
+fn shift_of<S: Surface>(mesh: &S, v: VertexId, x: i32, y: i32, rt: &impl Abort) -> ShiftOf
     ensures named { result.v ≡ v }
     ensures in_box { is_within BOX
         (plus (rest_positions (S.mesh mesh.now) v) (displacement_of result.by)) ≡ true }
     ensures solid { is_solid (S.mesh mesh.now) v ≡ true → displacement_of result.by ≡ origin }
 {
     let from = mesh.point(v).expect(rt, "a live vertex");
-    let x = if mesh.solid(v) { 0 } else { x };
-    let by = Shift::new(x, 0, 0).expect(rt, "a shift within the limit");
+    let (x, y) = if mesh.solid(v) { (0, 0) } else { (x, y) };
+    let by = Shift::new(x, y, 0).expect(rt, "a shift within the limit");
     assert!(rt; moved(from, by).is_some());
     ShiftOf { v, by }
 }
@@ -41,6 +41,7 @@ pub(crate) fn shifts_of<S: Surface>(
     alloc: Global,
     mesh: &S,
     xs: &[i32; 8],
+    ys: &[i32; 8],
     rt: &impl Abort,
 ) -> Result<Shifts, NoMemory>
     ensures named { IfOk result (NameLive (S.mesh mesh.now)) }
@@ -50,7 +51,7 @@ pub(crate) fn shifts_of<S: Surface>(
     let ids = live_vertices(alloc, mesh)?;
     let mut by = Shifts::new(alloc);
     for v in ids.as_slice() {
-        by.push(shift_of(mesh, *v, along(xs, *v), rt))?;
+        by.push(shift_of(mesh, *v, along(xs, *v), along(ys, *v), rt))?;
     }
     Ok(by)
 }
@@ -91,7 +92,7 @@ fn listed<S: Surface>(
 ) -> Result<Option<usize>, NoMemory> {
     let met = first_meeting(alloc, mesh)?;
     assert!(rt; met.is_none());
-    let by = shifts_of(alloc, mesh, xs, rt)?;
+    let by = shifts_of(alloc, mesh, xs, &[0; 8], rt)?;
     let found = kept.failing_by(alloc, mesh, &by, 6)?;
     Ok(found.map(|pairs| pairs.len()))
 }
@@ -120,7 +121,7 @@ fn move_all<S: Surface>(mesh: &mut S, by: &[ShiftOf], rt: &impl Abort) -> Result
 }
 
 fn move_since<S: Surface>(alloc: Global, mesh: &mut S, rt: &impl Abort) -> Result<(), NoMemory> {
-    let by = shifts_of(alloc, mesh, &SINCE, rt)?;
+    let by = shifts_of(alloc, mesh, &SINCE, &[0; 8], rt)?;
     move_all(mesh, by.as_slice(), rt)
 }
 
@@ -137,7 +138,7 @@ fn assert_drift<S: Surface>(
 
 #[test]
 fn a_list_serves_while_vertices_drift_alike(rt: HostRuntime) -> Result<(), Fail> {
-    let mut mesh = beside(rt.alloc(), &rt)?;
+    let mut mesh = beside(rt.alloc(), 0, &rt)?;
     let kept = KeptList::of(rt.alloc(), &mesh, &AtRest { mesh: &mesh }, 8)?;
     assert_drift(rt.alloc(), &kept, &mut mesh, &rt)?;
     Ok(())
@@ -159,7 +160,7 @@ fn stepped<S: Surface>(
 ) -> Result<bool, NoMemory> {
     let met = first_meeting(alloc, mesh)?;
     assert!(rt; met.is_none());
-    let by = shifts_of(alloc, mesh, &STEP, rt)?;
+    let by = shifts_of(alloc, mesh, &STEP, &[0; 8], rt)?;
     let hits = lists.asked_hits(alloc, mesh, &by, 4)?;
     assert_same(rt, &hits.len(), &0);
     let has_list = lists.of_mesh(alloc, mesh)?.kept.is_some();

@@ -65,9 +65,10 @@ fn mesh_of(alloc: Global, lists: &MeshLists, rt: &impl Abort) -> Result<PlainMes
     PlainMesh::of(alloc, Scale::Standard, lists)
 }
 
-// The two tetrahedra beside each other.
-pub(crate) fn beside(alloc: Global, rt: &impl Abort) -> Result<PlainMesh, NoMemory> {
-    let lists = lists_of(alloc, &BESIDE, &BESIDE_SIDES)?;
+// The two tetrahedra beside each other, so far up.
+pub(crate) fn beside(alloc: Global, up: i32, rt: &impl Abort) -> Result<PlainMesh, NoMemory> {
+    let mut lists = lists_of(alloc, &[], &[])?;
+    put(&mut lists, &BESIDE, &BESIDE_SIDES, [0, up], 0)?;
     mesh_of(alloc, &lists, rt)
 }
 

@@ -1,6 +1,6 @@
 use crate::same::assert_same;
 use grid_base::{NoMemory, Point};
-use mesh_make::{Job, cubes};
+use mesh_make::{Job, ROW_MAX, cubes};
 use std::alloc::Global;
 use std::process::Abort;
 use std::test::Fail;
@@ -64,6 +64,7 @@ fn assert_job(
     alloc: Global,
     (row, wanted, point, face, lines): Row,
 ) -> Result<(), NoMemory> {
+    assert!(rt; 1 <= row && row <= ROW_MAX);
     let job = cubes(alloc, row, 7)?;
     assert_same(rt, &counts(&job), &wanted);
     assert_same(

@@ -1,7 +1,9 @@
-//! Worked examples: decimal words with their values.
-use crate::same::assert_same;
-use line_text::{NumberWhy, grid_number};
+//! Worked examples: decimal words with their values, and values that are written.
+use crate::same::{assert_bytes, assert_same};
+use grid_base::DECIMALS_MAX;
+use line_text::{NumberWhy, fixed, grid_number};
 use std::process::Abort;
+use std::test::Fail;
 
 // Decimal words, and their values at 0, 3 and 6 decimals, rounded away from zero; none where they are out of range.
 const DECIMALS: [(&str, [Option<i32>; 3]); 22] = [
@@ -76,4 +78,19 @@ fn decimal_words_are_rounded_away_from_zero(rt: HostRuntime) {
             &(*word, [Err(NumberWhy::Form); 3]),
         );
     }
+}
+
+// Values with their decimals, which are written one after another.
+const FIXED: [(i32, u8); 3] = [(-5, 3), (-5, 0), (67_108_864, 6)];
+
+#[test]
+fn values_are_written_with_their_decimals(rt: HostRuntime) -> Result<(), Fail> {
+    let mut text = Vec::new(rt.alloc());
+    for (value, decimals) in &FIXED {
+        assert!(rt; *decimals <= DECIMALS_MAX);
+        fixed(*value, *decimals, &mut text)?;
+        text.push(b' ')?;
+    }
+    assert_bytes(&rt, text.as_slice(), b"-0.005 -5 67.108864 ");
+    Ok(())
 }
