@@ -1,9 +1,8 @@
 #!/usr/bin/env python3
-"""Measures steps through the library, with the log, with events and with no lines, against steps by files: cubes that go there and back,
-20,736 faces.
+"""Measures steps through the library, with its log, with events and with no lines, against steps by files.
 
-Prints the processor time of a step and the most memory of each, and how the library with the log stands to files; the logs have to be the
-same. What making the tracker costs is taken off, by a job of no step.
+Cubes go there and back, 20,736 faces. Prints the processor time of a step and the most memory of each, and how the library with its log
+stands to files; the logs have to be the same. What making the tracker costs is taken off, by a job of no step.
 """
 
 import os
