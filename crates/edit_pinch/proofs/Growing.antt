@@ -161,6 +161,10 @@ module _ (touch : ℕ → ℕ → Bool) (all : List ℕ) (x : ℕ) where
         (λ out. absurd (false≢true (sym (subst (λ u. touch u y ≡ false) at.2 (h.apart at.0 (omega (arith, low, end)) y out)) ∙ step)))
         (h.covers y (has_contained all y there))
 
+    -- where none is left, each is a member
+    pub none_left : left ≡ [] → (y : ℕ) → Has all y → Has class y
+    none_left none y has = ⊎_elim (λ it. it) (λ out. absurd (false≢true (subst (λ l. Has l y) none out))) (h.covers y has)
+
     pub is_class : length class ≤ i → (y : ℕ) → is_one_of class y ≡ is_one_of (class_of touch all x) y
     is_class end y = both_ways (is_one_of class y) (is_one_of (class_of touch all x) y)
         (λ has. linked_has touch all x y (h.linked x h.first).0 (h.linked y has).1)

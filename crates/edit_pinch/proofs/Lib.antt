@@ -21,3 +21,4 @@ pub mod Scaffolded
 pub mod Answered
 pub mod SolidVertices
 pub mod Parted
+pub mod OneFan

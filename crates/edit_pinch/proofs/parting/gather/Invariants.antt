@@ -2,7 +2,7 @@ use Rattle.std.proofs.Common.{◌≡◌, ◌+◌, ◌-◌, length, map}
 use Rattle.edit_pinch.specs.Pinch.{share_second}
 use Rattle.edit_pinch.specs.Parting.{cornered, face_ids}
 use Rattle.edit_pinch.proofs.Growing.{IsGrown}
-use Rattle.edit_pinch.proofs.parting.found.Given as goal
+use Rattle.edit_pinch.proofs.parting.gather.Given as goal
 
 -- the faces that are found so far, of which those before i are gone through, and those that are left, with their corners
 abbrev pub invariant-loop-i : goal.invariant-loop-i

@@ -3,9 +3,9 @@ use Rattle.std.proofs.lemmas.List.{get_or_default}
 use Rattle.std.specs.List.{filter}
 use Rattle.edit_pinch.specs.Pinch.{share_second}
 use Rattle.edit_pinch.specs.Parting.{face_ids}
-use Rattle.edit_pinch.proofs.Growing.{IsGrown, at_first, grown_on, fewer_left, is_class}
+use Rattle.edit_pinch.proofs.Growing.{IsGrown, at_first, grown_on, fewer_left, is_class, none_left}
 use Rattle.edit_pinch.proofs.Parted.{ids_are, cornered_still, rest_is, more_is}
-use Rattle.edit_pinch.proofs.parting.found.Goals as goal
+use Rattle.edit_pinch.proofs.parting.gather.Goals as goal
 
 pub loop-i-init : goal.loop-i-init
 loop-i-init g c =
@@ -54,8 +54,13 @@ loop-i-preserved g c =
       cornered_still m kept c.in_ok-left-2.left rest,
     )
 
-pub returns : goal.returns
-returns g c y =
+pub returns-clause-found : goal.returns-clause-found
+returns-clause-found g c y =
     let touch = share_second (g.S.Surface.mesh c.args.mesh.now) c.args.v in
     let end : length c.loop-i.fan ≤ c.loop-i.i = omega arith in
     is_class touch c.args.faces.now c.args.f c.loop-i.fan (face_ids c.loop-i.left) c.loop-i.i c.loop-i.invariant.0 end y
+
+pub returns-clause-all : goal.returns-clause-all
+returns-clause-all g c none y has =
+    let touch = share_second (g.S.Surface.mesh c.args.mesh.now) c.args.v in
+    none_left touch c.args.faces.now c.args.f c.loop-i.fan (face_ids c.loop-i.left) c.loop-i.i c.loop-i.invariant.0 (ap face_ids none) y has
