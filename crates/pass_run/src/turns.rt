@@ -82,7 +82,7 @@ fn is_zip_due<S: Surface>(
 {
     let (a, b) = e;
     let (c, d) = f;
-    are_near(mesh, (a, b), (c, d), limit_of(kind)) && zip_ready(mesh, a, b, c, d)
+    zip_ready(mesh, a, b, c, d) && are_near(mesh, (a, b), (c, d), limit_of(kind))
 }
 
 /// Whether what is asked is due.
