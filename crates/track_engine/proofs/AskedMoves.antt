@@ -1,5 +1,7 @@
 -- Whether a list that names some vertices asks one of a mesh to move.
-use Rattle.std.proofs.Common.{◌≡◌, ℕ, ◌==◌, ◌&&◌, ◌||◌, Bool, true, false, cond, not, List, [], ◌∷◌, map, is_some, Option, Some, None, refl, ap, sym, ◌∙◌, subst}
+use Rattle.std.proofs.Common.{◌≡◌, ℕ, suc, ◌<◌, ◌≤◌, ◌==◌, ◌&&◌, ◌||◌, Bool, true, false, cond, not, List, [], ◌∷◌, map, length, drop, get_or, is_some, Option, Some, None, refl, ap, sym, ◌∙◌, subst}
+use Rattle.std.proofs.Math.Seq.{drop-cons}
+use Rattle.std.proofs.lemmas.List.{at_drop_all}
 use Rattle.std.specs.Option.{unwrap_or}
 use Rattle.std.specs.List.{AllByRecursion, list_any}
 use Rattle.std.specs.FinMap as finite
@@ -31,13 +33,24 @@ any_found test v (t ∷ rest) s e holds = by_test (any_found test v rest s) (t.v
 
 -- and of none, where none is found
 none_found : (test : ShiftOf → Bool) (asked those : Shifts) → AllByRecursion (λ s. asked_of s.v asked ≡ Some s) those → ((s : ShiftOf) → asked_of s.v asked ≡ Some s → test s ≡ false) → list_any test those ≡ false
-none_found test asked [] found no = refl
-none_found test asked (s ∷ those) found no = ap (λ b. b || list_any test those) (no s found.0) ∙ none_found test asked those found.1 no
+none_found test asked [] found fails = refl
+none_found test asked (s ∷ those) found fails = ap (λ b. b || list_any test those) (fails s found.0) ∙ none_found test asked those found.1 fails
 
 -- of ids
 none_of : (test : ShiftOf → Bool) (f : ℕ → ShiftOf) (ids : List ℕ) → AllByRecursion (λ v. test (f v) ≡ false) ids → list_any test (map f ids) ≡ false
-none_of test f [] no = refl
-none_of test f (v ∷ ids) no = ap (λ b. b || list_any test (map f ids)) no.0 ∙ none_of test f ids no.1
+none_of test f [] fails = refl
+none_of test f (v ∷ ids) fails = ap (λ b. b || list_any test (map f ids)) fails.0 ∙ none_of test f ids fails.1
+
+-- of the one at which a search stands, and of none where it is at the end
+pub any_here : (test : ShiftOf → Bool) (asked : Shifts) (i : ℕ) (s : ShiftOf) → i < length asked → s ≡ get_or asked i s → test s ≡ true → list_any test (drop i asked) ≡ list_any test asked → list_any test asked ≡ true
+any_here test asked i s within at holds same =
+    sym same
+    ∙ ap (list_any test) (drop-cons asked i s within)
+    ∙ ap (λ (t : ShiftOf). test t || list_any test (drop (suc i) asked)) (sym at)
+    ∙ ap (λ b. b || list_any test (drop (suc i) asked)) holds
+
+pub none_left : (test : ShiftOf → Bool) (asked : Shifts) (i : ℕ) → length asked ≤ i → list_any test (drop i asked) ≡ list_any test asked → list_any test asked ≡ false
+none_left test asked i beyond same = sym same ∙ at_drop_all (list_any test) asked i beyond
 
 -- ---- shifts that move their vertices
 
@@ -55,7 +68,7 @@ stirs_live m s live free =
 
 module _ (m : Mesh) (asked : Shifts) (rises : Rises asked) where
   -- where the list asks no one to move
-  module _ (no : list_any (stirs m) asked ≡ false) where
+  module _ (calm : list_any (stirs m) asked ≡ false) where
     still_named : (v : ℕ) → IsLiveVertex m v → is_solid m v ≡ false → (o : Option ShiftOf) → asked_of v asked ≡ o → moves (unwrap_or o (still_at v)) ≡ false
     still_named v live free None e = no_motion v
     still_named v live free (Some s) e = by_test (moves s) refl
@@ -68,7 +81,7 @@ module _ (m : Mesh) (asked : Shifts) (rises : Rises asked) where
         by_test true is =
             let P : ℕ → Type 0 = λ k. IsLiveVertex m k in
             let yes = stirs_live m s (subst P (sym named) live) (ap (is_solid m) named ∙ free) ∙ is in
-            absurd (false≢true (sym no ∙ any_found (stirs m) v asked s e yes))
+            absurd (false≢true (sym calm ∙ any_found (stirs m) v asked s e yes))
 
     no_one : (v : ℕ) → IsLiveVertex m v → moves (still_asked m asked v) ≡ false
     no_one v live = by_solid (is_solid m v) refl
@@ -81,7 +94,7 @@ module _ (m : Mesh) (asked : Shifts) (rises : Rises asked) where
     no_asks = none_of moves (still_asked m asked) (finite.keys m.points) (all_weaker (IsLiveVertex m) (λ v. moves (still_asked m asked v) ≡ false) (finite.keys m.points) no_one (live_keys m))
 
   -- where no one is asked to move
-  module _ (no : asks (asked_in m asked) ≡ false) where
+  module _ (calm : asks (asked_in m asked) ≡ false) where
     no_stir : (s : ShiftOf) → asked_of s.v asked ≡ Some s → stirs m s ≡ false
     no_stir s found = by_live (is_some (finite.get m.points s.v)) refl (is_solid m s.v) refl
       where
@@ -99,7 +112,7 @@ module _ (m : Mesh) (asked : Shifts) (rises : Rises asked) where
 
             by_test : (b : Bool) → moves s ≡ b → moves s ≡ false
             by_test false is = is
-            by_test true is = absurd (false≢true (sym no ∙ any_found moves s.v (asked_in m asked) s (found_live m asked s.v e ∙ ap Some here) is))
+            by_test true is = absurd (false≢true (sym calm ∙ any_found moves s.v (asked_in m asked) s (found_live m asked s.v e ∙ ap Some here) is))
 
     no_stirs : list_any (stirs m) asked ≡ false
     no_stirs = none_found (stirs m) asked asked (each_is_found asked rises) no_stir
@@ -112,3 +125,7 @@ module _ (m : Mesh) (asked : Shifts) (rises : Rises asked) where
       by_test false e b f = no_asks e ∙ sym e
       by_test true e true f = f ∙ sym e
       by_test true e false f = f ∙ sym (no_stirs f)
+
+-- the same, of the list as it is looked at
+pub asks_among : (m : Mesh) (asked items : Shifts) → items ≡ asked → Rises asked → asks (asked_in m asked) ≡ list_any (stirs m) items
+asks_among m asked items same rises = asks_as m asked rises ∙ ap (list_any (stirs m)) (sym same)
