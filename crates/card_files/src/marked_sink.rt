@@ -4,7 +4,7 @@ ghost use Rattle.outside_io.specs.Causes.{HasCause};
 ghost use Rattle.outside_io.specs.Sink.{appended};
 
 use job_card::{FileMark, Marker};
-use outside_io::{Failed, Sink};
+use outside_io::{Fact, Failed, Sink};
 
 /// Passes all on to another sink, and takes its mark where that is asked.
 #[derive(Drop)]
@@ -63,11 +63,11 @@ impl<K: Sink> Sink for MarkedSink<K> {
     }
 
     /// Passes it on.
-    fn progress(&mut self, lines: u32)
+    fn hear(&mut self, fact: Fact)
         ensures written { K.written self.new.sink ≡ K.written self.old.sink }
         ensures faults { K.faults self.new.sink ≡ K.faults self.old.sink }
     {
-        self.sink.progress(lines);
+        self.sink.hear(fact);
     }
 
     ghost few = { λ s. K.few s.sink };

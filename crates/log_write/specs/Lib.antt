@@ -1,2 +1,3 @@
-pub mod Written
 pub mod Kept
+pub mod Kinds
+pub mod Written

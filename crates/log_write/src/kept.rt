@@ -9,7 +9,7 @@ use crate::copies::copy_of_line;
 use crate::listener::Listener;
 use grid_base::NoMemory;
 use log_text::{LogLine, print_line};
-use outside_io::{Fetched, Outside, Stop};
+use outside_io::{Fact, Fetched, Outside, Stop};
 use std::alloc::Global;
 
 /// Lines that were told, kept as values until they are cleared, or not kept at all. Their text is made when it is asked for, each line
@@ -135,7 +135,7 @@ impl Outside for KeptLines {
         Err(Stop::SinkFault)
     }
 
-    fn progress(&mut self, _lines: u32) {}
+    fn hear(&mut self, _fact: Fact) {}
 }
 
 impl Listener for KeptLines {

@@ -4,9 +4,8 @@ ghost use Rattle.log_text.specs.Lines.{text_of_line};
 ghost use Rattle.outside_io.specs.Sink.{AppendsPart};
 ghost use Rattle.log_write.specs.Written.{Says};
 
-use crate::writing::write_line;
 use log_text::LogLine;
-use outside_io::{Desk, Ends, Outside, Sink, Stop};
+use outside_io::{Outside, Stop};
 use std::alloc::Global;
 
 /// What takes the lines of a log, each as a value, in the order in which they are told. What it holds then, where it tells, is the text of
@@ -20,11 +19,4 @@ pub trait Listener: Outside {
             (Self.around self.new).world.holds.written (text_of_line line.now)) }
         ensures none { IsErrOf result Stop.NoMemory →
             Self.around self.new ≡ Self.around self.old };
-}
-
-/// Writes the text of each line, with its end, to the sink.
-impl<'d, 'k, D: Desk, K: Sink> Listener for Ends<'d, 'k, D, K> {
-    fn tell(&mut self, alloc: Global, line: &LogLine) -> Result<(), Stop> {
-        write_line(alloc, self, line)
-    }
 }

@@ -1,9 +1,10 @@
-//! What a program meets outside: a sink that takes bytes and a desk that keeps files by their names.
+//! What a program meets outside: a sink that takes bytes, and hears of the run, and a desk that keeps files by their names.
 //! Each counts its faults, so that a caller can tell a fault of theirs from one of its own.
 #![tactic(auto)]
 
 mod beside;
 mod desk;
+mod fact;
 mod limits;
 mod line_counts;
 mod listed;
@@ -13,7 +14,6 @@ mod memory_sink;
 mod outside;
 mod pipes;
 mod placing;
-mod progress;
 mod reading;
 mod real;
 mod shelf;
@@ -24,11 +24,11 @@ mod told;
 mod trouble;
 
 pub use desk::{Desk, FetchFault, StoreFault};
+pub use fact::{Ending, Fact, LineKind};
 pub use locks::TryLock;
 pub use memory_desk::MemoryDesk;
 pub use memory_sink::MemorySink;
 pub use outside::{Ends, Fetched, Outside};
-pub use progress::ProgressSink;
 pub use real::{FileDesk, StdSink};
 pub use sink::{Failed, Sink, put_all};
 pub use stop::Stop;

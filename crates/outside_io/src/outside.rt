@@ -4,7 +4,7 @@ ghost use Rattle.outside_io.specs.Outside.{Around, Fetches, Stores, Puts};
 ghost use Rattle.outside_io.specs.World.{world};
 
 use crate::stop::Stop;
-use crate::{Desk, FetchFault, Sink, StoreFault, put_all};
+use crate::{Desk, Fact, FetchFault, Sink, StoreFault, put_all};
 use std::alloc::Global;
 
 /// What a fetch that did not fail found.
@@ -35,8 +35,8 @@ pub trait Outside {
     fn put(&mut self, bytes: &[u8]) -> Result<(), Stop>
         ensures { Puts bytes.now (around self.old) (around self.new) result };
 
-    /// Hears how many lines were taken so far, of work that writes only at its end. Nothing changes.
-    fn progress(&mut self, lines: u32)
+    /// Hears a fact of the run. Nothing changes.
+    fn hear(&mut self, fact: Fact)
         ensures { around self.new ≡ around self.old };
 }
 
@@ -79,7 +79,7 @@ impl<'d, 'k, D: Desk, K: Sink> Outside for Ends<'d, 'k, D, K> {
         }
     }
 
-    fn progress(&mut self, lines: u32) {
-        self.out.progress(lines);
+    fn hear(&mut self, fact: Fact) {
+        self.out.hear(fact);
     }
 }

@@ -3,6 +3,7 @@ ghost use Rattle.std.specs.Prelude.{◌≡◌, ◌<◌, ◌≤◌, ◌-◌, ◌^
 ghost use Rattle.outside_io.specs.Causes.{HasCause};
 ghost use Rattle.outside_io.specs.Sink.{appended, AppendsPart};
 
+use crate::Fact;
 use thiserror::Error;
 
 /// A call outside failed.
@@ -28,8 +29,8 @@ pub trait Sink {
         ensures refused { OnErr result (written self.new ≡ written self.old) }
         ensures cause { HasCause (faults self.old) (faults self.new) result };
 
-    /// Hears how many lines were taken so far, of work that writes only at its end. Nothing is written.
-    fn progress(&mut self, lines: u32)
+    /// Hears a fact of the run. Nothing is written.
+    fn hear(&mut self, fact: Fact)
         ensures written { written self.new ≡ written self.old }
         ensures faults { faults self.new ≡ faults self.old }
     {}

@@ -2,7 +2,6 @@
 //! refusal and from the texts that it speaks of.
 #![tactic(auto)]
 
-mod asked;
 mod desk_reasons;
 mod face_lines;
 mod finer_numbers;
@@ -18,12 +17,10 @@ mod places;
 mod proof_reasons;
 mod shape_reasons;
 mod step_reasons;
-mod steps_end;
 mod terminal;
 mod warnings;
 mod word_reasons;
 
-pub use asked::asks_in_vain;
 pub use desk_reasons::{
     long_card_reason, long_reason, missing_reason, output_reason, trouble_reason,
 };
@@ -40,7 +37,6 @@ pub use overwritten::{
 pub use proof_reasons::{Unproved, motion_reason, proof_text_reason};
 pub use shape_reasons::{meeting_reason, shape_reason};
 pub use step_reasons::{gone_reason, step_text_reason, use_reason};
-pub use steps_end::StepsEnd;
 pub use terminal::plain;
 pub use warnings::{is_inside_out, rounding_warning};
 pub use word_reasons::words_reason;

@@ -18,7 +18,7 @@ use cards::{asked_of, keep_card, other_job};
 use explaining::{Seen, explain};
 use mesh_field::{Fields, no_fields};
 use mesh_sizing::Sizing;
-use outside_io::{FileDesk, StdSink, Trouble};
+use outside_io::{Ending, FileDesk, StdSink, Trouble};
 use refusal_sentences::plain;
 use shipped::{REACH, shipped_names, shipped_shift};
 use std::alloc::{AllocError, Global};
@@ -104,11 +104,12 @@ fn trouble_of<'d>(desk: &'d SystemDesk<'_, '_, '_, HostRuntime>) -> Option<&'d T
     }
 }
 
-// What a run has left behind: its desk, the vertices that its log ended, and what standard output refused.
+// What a run has left behind: its desk, the vertices that its log ended, how its directives ended, and what standard output refused.
 #[derive(Clone, Copy)]
 struct Left<'l, 'd, 'e, 'w> {
     desk: &'l SystemDesk<'d, 'e, 'w, HostRuntime>,
     ended: &'l EndedVertices,
+    ending: Option<Ending>,
     refused: Option<io::Error>,
 }
 
@@ -118,17 +119,18 @@ fn amiss(
     words: &[String],
     names: Option<Names<'_>>,
     outcome: &Outcome,
-    desk: &SystemDesk<'_, '_, '_, HostRuntime>,
+    left: Left<'_, '_, '_, '_>,
 ) -> Result<Vec<String>, AllocError> {
     let alloc = rt.alloc();
     if *outcome != Outcome::Done {
         return Ok(Vec::new(alloc));
     }
-    let stored = match &desk.stored {
+    let stored = match &left.desk.stored {
         Some(stored) => Some(stored.as_str()),
         None => None,
     };
-    warnings(alloc, words, names, &desk.texts, stored, rt)
+    let texts = &left.desk.texts;
+    warnings(alloc, words, names, texts, stored, left.ending, rt)
 }
 
 // Tells what is to be told on standard error of a run that has ended, and gives the status.
@@ -141,7 +143,7 @@ fn finish(
     left: Left<'_, '_, '_, '_>,
 ) -> ExitCode {
     let alloc = rt.alloc();
-    let said = amiss(rt, words, names, &outcome, left.desk);
+    let said = amiss(rt, words, names, &outcome, left);
     let seen = Seen {
         texts: &left.desk.texts,
         ended: left.ended,
@@ -190,6 +192,7 @@ fn answer_words(rt: &HostRuntime, words: &[String], given: Given<'_>) -> ExitCod
     let left = Left {
         desk: &desk.desk,
         ended: &out.sink.vertices,
+        ending: out.sink.ending,
         refused: output.refused(),
     };
     finish(rt, words, given.names, outcome, &life, left)

@@ -91,7 +91,7 @@ found_none m asked v dead = found_in m asked v ∙ by_answer (finite.get m.point
 
 -- ---- of each live vertex
 
-live_keys : (m : Mesh) → AllByRecursion (IsLiveVertex m) (finite.keys m.points)
+pub live_keys : (m : Mesh) → AllByRecursion (IsLiveVertex m) (finite.keys m.points)
 live_keys m =
     let es = finite.entries m.points in
     all_mapped (IsLiveVertex m) (λ e. e.0) es (all_weaker (λ e. entries.find nat_cmp e.0 es ≡ Some e.1) (λ e. IsLiveVertex m e.0) es (λ e h. ap is_some (get-entries m.points e.0 ∙ h)) (each_found es (entries_sorted m.points)))

@@ -17,6 +17,7 @@ pub mod Still
 pub mod VertexIds
 pub mod AskedLists
 pub mod AskedLemmas
+pub mod AskedMoves
 pub mod DriveLemmas
 pub mod Keeping
 pub mod AskedSums

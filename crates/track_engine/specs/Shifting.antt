@@ -1,13 +1,14 @@
 -- What adding a shift to what is asked answers.
-use Rattle.std.specs.Prelude.{◌≡◌, ◌<◌, ◌≤◌, ◌==◌, ℕ, true, false, Option, Some, None, Result, Ok, Err, if◌then◌else◌}
-use Rattle.std.specs.List.{AllByRecursion}
+use Rattle.std.specs.Prelude.{◌≡◌, ◌<◌, ◌≤◌, ◌==◌, ◌&&◌, ℕ, Bool, true, false, not, is_some, Option, Some, None, Result, Ok, Err, if◌then◌else◌}
+use Rattle.std.specs.FinMap as finite
+use Rattle.std.specs.List.{AllByRecursion, list_any}
 use Rattle.grid_base.specs.declared.Shift.{Shift}
 use Rattle.mesh_base.specs.declared.ShiftOf.{ShiftOf}
-use Rattle.mesh_base.specs.Mesh.{Mesh, IsLiveVertex}
+use Rattle.mesh_base.specs.Mesh.{Mesh, IsLiveVertex, is_solid}
 use Rattle.mesh_base.specs.declared.UseWhy.{UseWhy}
 use Rattle.mesh_base.specs.Shifts.{Shifts}
 use Rattle.track_engine.specs.State.{asked_of, still_asked}
-use Rattle.track_engine.specs.Effects.{is_beyond, summed_unless_solid, first_beyond, all_summed}
+use Rattle.track_engine.specs.Effects.{moves, is_beyond, summed_unless_solid, first_beyond, all_summed}
 
 -- the sum of one vertex, unless it is solid; none, where it is above the limit
 abbrev pub SumsOne : Mesh → (ℕ → Shift) → ShiftOf → Option ShiftOf → Type 0
@@ -43,3 +44,11 @@ IsPutIn m s old new = (v : ℕ) → IsLiveVertex m v →
 -- nothing is asked of a vertex whose id the mesh has not given yet
 abbrev pub AsksOfGiven : Mesh → Shifts → Type 0
 AsksOfGiven m asked = (v : ℕ) → m.next_vertex ≤ v → asked_of v asked ≡ None
+
+-- whether a vertex is asked to move
+abbrev pub asks : Shifts → Bool
+asks asked = list_any moves asked
+
+-- whether the shift moves its vertex, which lives and is not solid
+abbrev pub stirs : Mesh → ShiftOf → Bool
+stirs m s = moves s && (is_some (finite.get m.points s.v) && not (is_solid m s.v))

@@ -51,6 +51,14 @@ impl AskedShifts {
         }
     }
 
+    /// The shifts that are named, by rising id.
+    pub(crate) fn as_slice(&self) -> &[ShiftOf]
+        ensures same { result.now ≡ self.now }
+        ensures rise { IsStrictlySortedBy nat_cmp (map (λ s. s.v) self.now) }
+    {
+        self.by_id.as_slice()
+    }
+
     /// The same.
     pub(crate) fn copy(&self, alloc: Global) -> Result<AskedShifts, NoMemory>
         ensures { IfOk result (λ copy. copy ≡ self.now) }

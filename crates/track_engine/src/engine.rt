@@ -1,10 +1,12 @@
 ghost use Rattle.std.specs.Prelude.{◌≡◌, [], IfOk};
 ghost use Rattle.track_engine.specs.State.{unsaved};
 ghost use Rattle.track_engine.specs.Engines.{state_in};
+ghost use Rattle.track_engine.specs.Shifting.{asks};
 
 use crate::asked_shifts::AskedShifts;
 use crate::open_groups::OpenGroups;
 use crate::run_state::RunState;
+use crate::shifting::asks;
 use grid_base::NoMemory;
 use mesh_base::Surface;
 use std::alloc::Global;
@@ -40,5 +42,14 @@ impl<S: Surface + Drop> Engine<S> {
             run,
             near: StepLists::none(),
         })
+    }
+}
+
+impl<S: Surface> Engine<S> {
+    /// Whether a vertex is asked to move, as no step has moved it yet. Takes no memory.
+    pub fn asks(&self) -> bool
+        ensures { result ≡ asks (state_in S.mesh S.kept self.now).asked }
+    {
+        asks(&self.mesh, &self.run.asked)
     }
 }

@@ -5,7 +5,7 @@ ghost use Rattle.grid_base.specs.Points.{displacement_of};
 ghost use Rattle.mesh_base.specs.Mesh.{IsLiveVertex, is_solid};
 ghost use Rattle.track_engine.specs.State.{still_asked, asked_in};
 ghost use Rattle.track_engine.specs.Effects.{moves, sum_of_one};
-ghost use Rattle.track_engine.specs.Shifting.{SumsOne, Sums, AsksNow, IsPutIn, AsksOfGiven};
+ghost use Rattle.track_engine.specs.Shifting.{SumsOne, Sums, AsksNow, IsPutIn, AsksOfGiven, stirs, asks};
 
 use crate::asked_shifts::AskedShifts;
 use grid_base::{NO_SHIFT, NoMemory, SHIFT_MAX, Shift};
@@ -164,4 +164,23 @@ pub(crate) fn moves(s: &ShiftOf) -> bool
     ensures { result ≡ moves s.now }
 {
     s.by.x != 0 || s.by.y != 0 || s.by.z != 0
+}
+
+// Whether the shift moves its vertex, which lives and is not solid.
+fn stirs<S: Surface>(mesh: &S, s: &ShiftOf) -> bool
+    ensures { result ≡ stirs (S.mesh mesh.now) s.now }
+{
+    moves(s) && mesh.point(s.v).is_some() && !mesh.solid(s.v)
+}
+
+/// Whether a live vertex that is not solid is asked to move. Takes no memory.
+pub(crate) fn asks<S: Surface>(mesh: &S, asked: &AskedShifts) -> bool
+    ensures { result ≡ asks (asked_in (S.mesh mesh.now) asked.now) }
+{
+    for s in asked.as_slice() {
+        if stirs(mesh, s) {
+            return true;
+        }
+    }
+    false
 }

@@ -23,7 +23,7 @@ use log_run::LogRun;
 use log_run::laws::fitting_lines_are_safe;
 use log_text::LogLine;
 use mesh_journal::JournalMesh;
-use outside_io::{Outside, Stop};
+use outside_io::{Fact, Outside, Stop};
 use std::alloc::Global;
 use track_input::LogFiles;
 use track_log::{LogRefusal, Prepared, prepare_log, put_text, refuse, take_tested};
@@ -120,7 +120,7 @@ fn measure_each<O: Outside>(
     let mut number: u32 = 0;
     for line in lines {
         number += 1;
-        outside.progress(number);
+        outside.hear(Fact::Taken { lines: number });
         if !measure_line(alloc, run, number, line, &mut shape, outside)? {
             return refuse(alloc, &LogRefusal::Replay { line: number }, outside);
         }

@@ -22,7 +22,7 @@ use log_text::LogLine;
 use mesh_journal::JournalMesh;
 use motion_proof::laws::accepted_motions_are_clear;
 use motion_proof::{Certificate, Made, Verdict};
-use outside_io::{Outside, Stop};
+use outside_io::{Fact, Outside, Stop};
 use proof_text::{ProofAt, Proofs, print_proof};
 use std::alloc::Global;
 use track_input::LogFiles;
@@ -117,7 +117,7 @@ fn prove_each<O: Outside>(
     let mut number: u32 = 0;
     for line in lines {
         number += 1;
-        outside.progress(number);
+        outside.hear(Fact::Taken { lines: number });
         match prove_line(run, number, line, proofs)? {
             Taken::Fits => {}
             Taken::Unfit => {

@@ -26,7 +26,7 @@ use log_text::LogLine;
 use mesh_journal::JournalMesh;
 use motion_proof::Verdict;
 use motion_proof::laws::accepted_motions_are_clear;
-use outside_io::{Outside, Stop};
+use outside_io::{Fact, Outside, Stop};
 use proof_text::ProofAt;
 use std::alloc::Global;
 use track_input::ProofFiles;
@@ -171,7 +171,7 @@ fn verify_each<O: Outside>(
     let mut number: u32 = 0;
     for line in lines {
         number += 1;
-        outside.progress(number);
+        outside.hear(Fact::Taken { lines: number });
         match verify_line(run, number, line, rest)? {
             Taken::Fits => {}
             Taken::Unfit => {

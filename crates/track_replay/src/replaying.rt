@@ -17,7 +17,7 @@ use log_run::LogRun;
 use log_run::laws::fitting_lines_are_safe;
 use log_text::LogLine;
 use mesh_journal::JournalMesh;
-use outside_io::{Outside, Stop};
+use outside_io::{Fact, Outside, Stop};
 use std::alloc::Global;
 use track_engine::Target;
 use track_input::ReplayFiles;
@@ -57,7 +57,7 @@ fn replay_each<O: Outside>(
     let mut number: u32 = 0;
     for line in lines {
         number += 1;
-        outside.progress(number);
+        outside.hear(Fact::Taken { lines: number });
         if !take_tested(alloc, run, line)? {
             return refuse(alloc, &LogRefusal::Replay { line: number }, outside);
         }

@@ -6,3 +6,4 @@ pub mod Reached
 pub mod Outcomes
 pub mod Headline
 pub mod Complete
+pub mod Ending

@@ -3,6 +3,7 @@
 //! proof of them verified.
 #![tactic(auto)]
 
+mod ending;
 pub mod laws;
 mod outcome;
 mod top;

@@ -13,6 +13,7 @@ ghost use Rattle.track_run.specs.Answered.{FollowsMesh, FollowsTest};
 ghost use Rattle.track_run.specs.Outcomes.{outcome_of, outcome_at, outcome_from, outcome_of_try, outcome_of_log, outcome_by_log};
 ghost use Rattle.track_run.specs.Headline.{RunsFor, TracksJob};
 
+use crate::ending::tell_ending;
 use crate::outcome::Outcome;
 use grid_base::{Point, Shift};
 use log_text::{LogLine, Refusal, VERSION};
@@ -128,7 +129,10 @@ fn begin<S: Surface + Drop, O: Listener, F: Fn(u8, Point) -> Shift, G: Fn(Point)
 {
     let mut engine = Engine::new(alloc, mesh)?;
     engine.save(alloc, terms.to, outside)?;
-    engine.follow(alloc, terms, steps.as_slice(), outside)
+    let directives = steps.as_slice();
+    let ended = engine.follow(alloc, terms, directives, outside);
+    tell_ending(&engine, directives, &ended, outside);
+    ended
 }
 
 // The mesh is tested, and begun with where no edge meets a face that shares no vertex with it.

@@ -1,14 +1,11 @@
-//! A sink that notes which line of the log took which vertex away, so that a later use of the vertex can be answered with it.
+//! A sink that notes what a run lets it know: which line of the log took which vertex away, so that a later use of the vertex can be
+//! answered with it, and how the directives ended.
 ghost use Rattle.std.specs.Prelude.{◌≡◌, ◌<◌, ◌≤◌, length, take, IfOk, OnErr};
 ghost use Rattle.outside_io.specs.Causes.{HasCause};
 ghost use Rattle.outside_io.specs.Sink.{appended};
 
-use line_text::{Parts, spelled_number, words};
-use outside_io::{Failed, Sink};
+use outside_io::{Ending, Fact, Failed, LineKind, Sink};
 use std::alloc::Global;
-
-// How many bytes of a line are looked at: as many as a line of a collapse can need up to its second id.
-const LOOKED_AT: usize = 40;
 
 // A vertex that a line of the log took away.
 #[derive(Clone, Copy)]
@@ -37,18 +34,20 @@ impl EndedVertices {
         self.ended.truncate(kept);
     }
 
-    // Notes what a line does.
-    fn note(&mut self, line: &[u8], number: u64) {
-        if line == b"group".as_slice() {
-            let _ = self.groups.push(number);
-        } else if line == b"close kept".as_slice() {
-            let _ = self.groups.pop();
-        } else if line == b"close undone".as_slice() {
-            self.undo();
-        } else if line.starts_with(b"collapse ") {
-            if let Some(v) = second_id(line) {
+    // Notes what a line tells.
+    fn note(&mut self, kind: LineKind, number: u64) {
+        match kind {
+            LineKind::Group => {
+                let _ = self.groups.push(number);
+            }
+            LineKind::Kept => {
+                let _ = self.groups.pop();
+            }
+            LineKind::Undone => self.undo(),
+            LineKind::Gone { v } => {
                 let _ = self.ended.push(Ended { v, line: number });
             }
+            LineKind::Step | LineKind::Other => {}
         }
     }
 
@@ -63,19 +62,14 @@ impl EndedVertices {
     }
 }
 
-// The second id of a line.
-fn second_id(line: &[u8]) -> Option<u32> {
-    let id = spelled_number(words(line).nth(2)?)?;
-    u32::try_from(id).ok()
-}
-
-/// Passes all on to another sink, and notes of a log what took vertices away.
+/// Passes all on to another sink, and notes which lines of the log took vertices away, and how the directives ended, if all were done.
 #[derive(Drop)]
 pub struct LogWatch<K> {
     pub sink: K,
     pub vertices: EndedVertices,
-    line: Vec<u8>,
-    number: u64,
+    pub ending: Option<Ending>,
+    // how many lines were written
+    lines: u64,
 }
 
 impl<K: Sink> LogWatch<K> {
@@ -89,40 +83,22 @@ impl<K: Sink> LogWatch<K> {
                 ended: Vec::new(alloc),
                 groups: Vec::new(alloc),
             },
-            line: Vec::new(alloc),
-            number: 1,
+            ending: None,
+            lines: 0,
         }
     }
 
-    // Ends a line.
-    fn end_line(&mut self)
+    // Notes a fact.
+    fn note(&mut self, fact: Fact)
         ensures { self.new.sink ≡ self.old.sink }
     {
-        self.vertices.note(self.line.as_slice(), self.number);
-        self.line.clear();
-        self.number = self.number.saturating_add(1);
-    }
-
-    // Keeps a part of a line, as far as a line is looked at.
-    fn keep(&mut self, part: &[u8])
-        ensures { self.new.sink ≡ self.old.sink }
-    {
-        let room = LOOKED_AT.saturating_sub(self.line.len());
-        let (kept, _) = part.split_at(room.min(part.len()));
-        let _ = self.line.extend_from_slice(kept);
-    }
-
-    // Looks at the next bytes of the log.
-    fn look_all(&mut self, bytes: &[u8])
-        ensures { self.new.sink ≡ self.old.sink }
-    {
-        let mut is_first = true;
-        for part in Parts::new(b'\n', bytes) {
-            if !is_first {
-                self.end_line();
+        match fact {
+            Fact::Line(kind) => {
+                self.lines = self.lines.saturating_add(1);
+                self.vertices.note(kind, self.lines);
             }
-            is_first = false;
-            self.keep(part);
+            Fact::Ended(ending) => self.ending = Some(ending),
+            Fact::Taken { .. } => {}
         }
     }
 }
@@ -142,17 +118,16 @@ impl<K: Sink> Sink for LogWatch<K> {
         ensures refused { OnErr result (K.written self.new.sink ≡ K.written self.old.sink) }
         ensures cause { HasCause (K.faults self.old.sink) (K.faults self.new.sink) result }
     {
-        let count = self.sink.write(bytes)?;
-        self.look_all(&bytes[..count]);
-        Ok(count)
+        self.sink.write(bytes)
     }
 
-    /// Passes it on.
-    fn progress(&mut self, lines: u32)
+    /// Passes it on, and notes it.
+    fn hear(&mut self, fact: Fact)
         ensures written { K.written self.new.sink ≡ K.written self.old.sink }
         ensures faults { K.faults self.new.sink ≡ K.faults self.old.sink }
     {
-        self.sink.progress(lines);
+        self.sink.hear(fact);
+        self.note(fact);
     }
 
     ghost few = { λ s. K.few s.sink };

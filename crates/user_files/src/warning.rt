@@ -8,10 +8,8 @@ use crate::stored_lists::stored_lists_in;
 use crate::texts::Texts;
 use grid_base::TEXT_MAX;
 use mesh_base::MeshLists;
-use outside_io::{Desk, FileDesk, TryLock};
-use refusal_sentences::{
-    StepsEnd, asks_in_vain, is_inside_out, log_end_warning, manifold_warning, prefix_warning,
-};
+use outside_io::{Desk, Ending, FileDesk, TryLock};
+use refusal_sentences::{is_inside_out, log_end_warning, manifold_warning, prefix_warning};
 use std::alloc::{AllocError, Global};
 use std::fs;
 use std::rt::Files;
@@ -38,35 +36,28 @@ fn surface_warnings(
     Ok(())
 }
 
-// The warnings that a text of steps gives.
-fn steps_warnings(alloc: Global, bytes: &[u8], into: &mut Vec<String>) -> Result<(), AllocError>
-    requires { length bytes.now ≤ TEXT_MAX }
-{
-    let end = StepsEnd::of(bytes);
-    if end.is_empty {
+// The warnings that the end of the directives gives.
+fn ending_warnings(
+    alloc: Global,
+    ending: Ending,
+    into: &mut Vec<String>,
+) -> Result<(), AllocError> {
+    if ending.is_empty {
         warn(
             alloc,
             "there are no steps: mesh 0 is the mesh as it was read",
             into,
         )?;
     }
-    if end.is_unsaved {
+    if ending.is_unsaved {
         let unsaved = "what is done after the last `save` is stored in no mesh";
         warn(alloc, unsaved, into)?;
     }
-    if asks_in_vain(alloc, bytes, &end)? {
+    if ending.asks_in_vain {
         let vain = "shifts are requested after the last `step`, and nothing takes them";
         warn(alloc, vain, into)?;
     }
     Ok(())
-}
-
-// Whether the words ask for steps to be taken.
-fn has_steps(words: &[String]) -> bool {
-    match words.first() {
-        Some(first) => first.as_str() == "track",
-        None => false,
-    }
 }
 
 // Whether the words ask for a log to be read.
@@ -153,13 +144,14 @@ fn name_warning<R: Files>(
 }
 
 /// Says what may be amiss in a job that is done, from the texts that it read and the mesh that it stored last, each of which is read at most
-/// once more.
+/// once more, and from how its directives ended, if it has any to do.
 pub fn warnings<R: Files>(
     alloc: Global,
     words: &[String],
     names: Option<Names<'_>>,
     texts: &Texts,
     stored: Option<&str>,
+    ending: Option<Ending>,
     rt: &R,
 ) -> Result<Vec<String>, AllocError>
 where
@@ -174,8 +166,8 @@ where
         said.push(warning)?;
     }
     mesh_warnings(alloc, names, texts, stored, rt, &mut said)?;
-    if has_steps(words) {
-        steps_warnings(alloc, texts.last(names.other), &mut said)?;
+    if let Some(ending) = ending {
+        ending_warnings(alloc, ending, &mut said)?;
     }
     if reads_log(words) {
         let log = texts.last(names.other);

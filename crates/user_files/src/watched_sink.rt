@@ -4,7 +4,7 @@ ghost use Rattle.outside_io.specs.Causes.{HasCause};
 ghost use Rattle.outside_io.specs.Sink.{appended};
 
 use crate::life_line::LifeLine;
-use outside_io::{Failed, Sink, TallySink};
+use outside_io::{Fact, Failed, LineKind, Sink};
 use std::alloc::{AllocError, Global};
 use std::rt::Clock;
 
@@ -21,10 +21,11 @@ pub struct WatchedSink<'l, 'a, K, R> {
     alloc: Global,
     pub sink: K,
     life: &'l LifeLine<'a, R>,
-    tally: TallySink,
-    // how many of each were told last
+    // how many were written
     steps: u64,
     lines: u64,
+    // how many lines were written, and how many taken, when that was told last
+    told: u64,
     taken: u32,
 }
 
@@ -57,29 +58,25 @@ impl<'l, 'a, K: Sink, R: Eprint + Clock> WatchedSink<'l, 'a, K, R> {
             alloc,
             sink,
             life,
-            tally: TallySink::new(),
             steps: 0,
             lines: 0,
+            told: 0,
             taken: 0,
         }
     }
 
-    // Counts what was written, and tells it where a step more has begun, many lines more were written, or nothing was told for long; but not
-    // where the lines of a log are taken, which are told instead.
-    fn count(&mut self, bytes: &[u8])
+    // Counts a line that was written, and tells it where a step more has begun, many lines more were written, or nothing was told for long.
+    fn count(&mut self, kind: LineKind)
         ensures { self.new.sink ≡ self.old.sink }
     {
-        let _ = self.tally.write(bytes);
-        let (steps, lines) = (self.tally.steps(), self.tally.lines());
-        if self.life.lines.get() > 0 {
-            return;
-        }
-        let is_far = steps > self.steps || lines >= self.lines.saturating_add(WRITTEN);
-        if is_far || self.life.is_due() {
-            self.steps = steps;
-            self.lines = lines;
+        let is_step = kind == LineKind::Step;
+        self.steps = self.steps.saturating_add(u64::from(is_step));
+        self.lines = self.lines.saturating_add(1);
+        if is_step || self.lines >= self.told.saturating_add(WRITTEN) || self.life.is_due() {
+            self.told = self.lines;
             let of = self.life.steps.get();
-            self.life.tell(written_so_far(self.alloc, steps, of, lines));
+            self.life
+                .tell(written_so_far(self.alloc, self.steps, of, self.lines));
         }
     }
 
@@ -92,6 +89,17 @@ impl<'l, 'a, K: Sink, R: Eprint + Clock> WatchedSink<'l, 'a, K, R> {
             let of = self.life.lines.get();
             self.life
                 .tell(taken_so_far(self.alloc, u64::from(lines), of));
+        }
+    }
+
+    // Tells a fact; but of lines that are written nothing where the terminal has them too.
+    fn tell(&mut self, fact: Fact)
+        ensures { self.new.sink ≡ self.old.sink }
+    {
+        match fact {
+            Fact::Taken { lines } => self.tell_taken(lines),
+            Fact::Line(kind) if !self.life.is_shared() => self.count(kind),
+            _ => {}
         }
     }
 }
@@ -114,21 +122,17 @@ impl<'l, 'a, K: Sink, R: Eprint + Clock> Sink for WatchedSink<'l, 'a, K, R> {
         if self.life.is_shared() {
             self.life.wipe();
         }
-        let count = self.sink.write(bytes)?;
-        if self.life.is_watched() && !self.life.is_shared() {
-            self.count(&bytes[..count]);
-        }
-        Ok(count)
+        self.sink.write(bytes)
     }
 
     /// Passes it on, and tells it.
-    fn progress(&mut self, lines: u32)
+    fn hear(&mut self, fact: Fact)
         ensures written { K.written self.new.sink ≡ K.written self.old.sink }
         ensures faults { K.faults self.new.sink ≡ K.faults self.old.sink }
     {
-        self.sink.progress(lines);
+        self.sink.hear(fact);
         if self.life.is_watched() {
-            self.tell_taken(lines);
+            self.tell(fact);
         }
     }
 

@@ -32,7 +32,7 @@ pub loop-line-preserved : goal.loop-line-preserved
 loop-line-preserved g c = (
   proving_more c.args.run.now.replay.mesh c.args.lines.now c.loop-line.line-index c.line-item.result c.loop-line-test.true c.line-item.is c.loop-line.run c.loop-line.number c.loop-line.proofs c.loop-line.invariant.0
       c.in_ok-prove_line.field-0 c.in_ok-prove_line.ensures.told c.in-Fits.is c.prove_line.new.run c.prove_line.new.proofs (c.in_ok-prove_line.ensures.goes (ap Ok c.in-Fits.is)) (c.in_ok-prove_line.ensures.proofs (ap Ok c.in-Fits.is)),
-  c.progress.ensures ∙ c.loop-line.invariant.1,
+  c.hear.ensures ∙ c.loop-line.invariant.1,
 )
 
 pub returns-then-number-eq0-clause-proves : goal.returns-then-number-eq0-clause-proves

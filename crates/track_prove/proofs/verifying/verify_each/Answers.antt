@@ -32,7 +32,7 @@ pub loop-line-preserved : goal.loop-line-preserved
 loop-line-preserved g c = (
   verifying_more c.args.run.now.replay.mesh c.args.lines.now (proofs_view c.args.proofs.now) c.loop-line.line-index c.line-item.result c.loop-line-test.true c.line-item.is c.loop-line.run c.loop-line.number (proofs_view c.loop-line.rest.now) c.loop-line.invariant.0
       c.in_ok-verify_line.field-0 c.in_ok-verify_line.ensures.told c.in-Fits.is c.verify_line.new.run (proofs_view c.behind-rest.result.now) (c.in_ok-verify_line.ensures.goes (ap Ok c.in-Fits.is)) c.behind-rest.ensures,
-  c.progress.ensures ∙ c.loop-line.invariant.1,
+  c.hear.ensures ∙ c.loop-line.invariant.1,
 )
 
 pub returns-then-number-eq0-clause-verifies : goal.returns-then-number-eq0-clause-verifies

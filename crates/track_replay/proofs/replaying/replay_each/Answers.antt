@@ -22,12 +22,12 @@ pub returns-in_err-take_tested : goal.returns-in_err-take_tested
 returns-in_err-take_tested g c =
     let p = err_from_is_err_and c.from_residual.result c.from_residual.ensures.1 in
     rw (p.1, p.2) (forgotten_here c.args.only (target_of c.args.to) c.args.run.now.replay.mesh c.args.lines.now c.loop-line.line-index c.line-item.result c.loop-line-test.true c.line-item.is c.loop-line.run c.loop-line.count c.loop-line.number
-    (g.O.Outside.around c.args.outside.now) (g.O.Outside.around c.loop-line.outside) (g.O.Outside.around c.progress.new.self) c.loop-line.invariant c.progress.ensures)
+    (g.O.Outside.around c.args.outside.now) (g.O.Outside.around c.loop-line.outside) (g.O.Outside.around c.hear.new.self) c.loop-line.invariant c.hear.ensures)
 
 pub returns-then-not-branch : goal.returns-then-not-branch
 returns-then-not-branch g c =
     refused_here c.args.only (target_of c.args.to) c.args.run.now.replay.mesh c.args.lines.now c.loop-line.line-index c.line-item.result c.loop-line-test.true c.line-item.is c.loop-line.run c.loop-line.count c.loop-line.number
-    (g.O.Outside.around c.args.outside.now) (g.O.Outside.around c.loop-line.outside) (g.O.Outside.around c.progress.new.self) c.loop-line.invariant c.progress.ensures
+    (g.O.Outside.around c.args.outside.now) (g.O.Outside.around c.loop-line.outside) (g.O.Outside.around c.hear.new.self) c.loop-line.invariant c.hear.ensures
     c.in_ok-take_tested.field-0 c.in_ok-take_tested.ensures.fits c.if-not-branch.true (g.O.Outside.around c.refuse.new.outside) c.refuse.result c.refuse.ensures.tells c.refuse.ensures.ending
 
 pub returns-in_err-more : goal.returns-in_err-more
@@ -35,7 +35,7 @@ returns-in_err-more g c =
     let p = err_from_is_err_and c.from_residual-in_err-more.result c.from_residual-in_err-more.ensures.1 in
     let yes = c.if-not-branch.false in
     rw (p.1, p.2) (stops_here c.args.only (target_of c.args.to) c.args.run.now.replay.mesh c.args.lines.now c.loop-line.line-index c.line-item.result c.loop-line-test.true c.line-item.is c.loop-line.run c.loop-line.count c.loop-line.number
-    (g.O.Outside.around c.args.outside.now) (g.O.Outside.around c.loop-line.outside) (g.O.Outside.around c.progress.new.self) c.loop-line.invariant c.progress.ensures
+    (g.O.Outside.around c.args.outside.now) (g.O.Outside.around c.loop-line.outside) (g.O.Outside.around c.hear.new.self) c.loop-line.invariant c.hear.ensures
     c.in_ok-take_tested.field-0 c.in_ok-take_tested.ensures.fits yes c.take_tested.new.run (c.in_ok-take_tested.ensures.taken (ap Ok yes)) (g.O.Outside.around c.store_line.new.outside) _ c.in_err-more.ensures)
 
 pub overflow_add-count : goal.overflow_add-count
@@ -44,7 +44,7 @@ overflow_add-count g c =
     omega (
       arith,
       few_here c.args.only (target_of c.args.to) c.args.run.now.replay.mesh c.args.lines.now c.loop-line.line-index c.line-item.result c.loop-line-test.true c.line-item.is c.loop-line.run c.loop-line.count c.loop-line.number
-          (g.O.Outside.around c.args.outside.now) (g.O.Outside.around c.loop-line.outside) (g.O.Outside.around c.progress.new.self) c.loop-line.invariant c.progress.ensures
+          (g.O.Outside.around c.args.outside.now) (g.O.Outside.around c.loop-line.outside) (g.O.Outside.around c.hear.new.self) c.loop-line.invariant c.hear.ensures
           c.in_ok-take_tested.field-0 c.in_ok-take_tested.ensures.fits yes c.take_tested.new.run (c.in_ok-take_tested.ensures.taken (ap Ok yes)) (g.O.Outside.around c.store_line.new.outside) c.in_ok-more.more c.in_ok-more.ensures,
       c.requires.few_lines,
     )
@@ -53,7 +53,7 @@ pub loop-line-preserved : goal.loop-line-preserved
 loop-line-preserved g c =
     let yes = c.if-not-branch.false in
     more_here c.args.only (target_of c.args.to) c.args.run.now.replay.mesh c.args.lines.now c.loop-line.line-index c.line-item.result c.loop-line-test.true c.line-item.is c.loop-line.run c.loop-line.count c.loop-line.number
-    (g.O.Outside.around c.args.outside.now) (g.O.Outside.around c.loop-line.outside) (g.O.Outside.around c.progress.new.self) c.loop-line.invariant c.progress.ensures
+    (g.O.Outside.around c.args.outside.now) (g.O.Outside.around c.loop-line.outside) (g.O.Outside.around c.hear.new.self) c.loop-line.invariant c.hear.ensures
     c.in_ok-take_tested.field-0 c.in_ok-take_tested.ensures.fits yes c.take_tested.new.run (c.in_ok-take_tested.ensures.taken (ap Ok yes)) (g.O.Outside.around c.store_line.new.outside) c.in_ok-more.more c.in_ok-more.ensures
     (c.in_ok-take_tested.ensures.valid (ap Ok yes))
 
