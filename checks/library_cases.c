@@ -174,6 +174,49 @@ static void passes(void)
     is("nothing is there", topo_fit(&t, 20, 60, &edits), TOPO_EMPTY);
 }
 
+/* what a table tells of the tetrahedron, whose edges are 40 long, or 57 between vertices 2, 3 and 4, and have their middles at 0 and 20 */
+static int fits_by(const struct topo_cells *cells, const struct topo_band *bands, size_t count, const char *lines)
+{
+    int so;
+    is("a tetrahedron", topo_new(four, 4, sides, 4, &t, &fault), TOPO_DONE);
+    is("a table", topo_fit_by(&t, cells, bands, count, &edits, &fault), TOPO_DONE);
+    so = tells(lines);
+    topo_free(&t);
+    return so;
+}
+
+static void tables(void)
+{
+    static const struct topo_band wide = {1, 100}, two[] = {{1, 100}, {1, 45}}, last_none[] = {{1, 100}, {45, 45}}, high[] = {{1, 1073741825}, {45, 45}};
+    static const struct topo_cells along_x = {-20, 0, 0, 20, 3, 1, 1}, along_y = {0, 0, 0, 20, 1, 2, 1}, along_z = {0, 0, 1, 19, 1, 1, 2};
+    static const struct topo_cells before = {-60, 7, -7, 5, 2, 1, 1}, behind = {50, 7, 7, 5, 2, 1, 1}, eight_cells = {0, 0, 0, 20, 2, 2, 2};
+    static const struct topo_cells far = {INT32_MIN, INT32_MAX, INT32_MIN, UINT32_MAX, 1, 1, 2}, no_side = {0, 0, 0, 0, 2, 1, 1}, none = {0, 0, 0, 5, 0, 1, 1};
+    static const struct topo_cells wraps = {0, 0, 0, 5, 2147483648u, 2147483648u, 4};
+    const struct topo_band three[] = {{1, 100}, {1, 100}, {1, 45}};
+    struct topo_band eight[] = {wide, wide, wide, {1, 45}, wide, {1, 45}, wide, wide};
+    is("along x", (uint32_t)fits_by(&along_x, three, 3, "pass fit\nsplit 2 3 5 20 20 0\nsplit 2 4 6 20 0 20\n"), 1);
+    is("along y", (uint32_t)fits_by(&along_y, two, 2, "pass fit\nsplit 2 3 5 20 20 0\nsplit 3 4 6 0 20 20\n"), 1);
+    is("along z", (uint32_t)fits_by(&along_z, two, 2, "pass fit\nsplit 2 4 5 20 0 20\nsplit 3 4 6 0 20 20\n"), 1);
+    is("behind all cells", (uint32_t)fits_by(&before, two, 2, "pass fit\nsplit 2 3 5 20 20 0\nsplit 2 4 6 20 0 20\nsplit 3 4 7 0 20 20\n"), 1);
+    is("before all cells", (uint32_t)fits_by(&behind, two, 2, "pass fit\n"), 1);
+    is("x runs first", (uint32_t)fits_by(&eight_cells, eight, 8, "pass fit\nsplit 2 3 5 20 20 0\nsplit 2 4 6 20 0 20\n"), 1);
+    is("the largest cells", (uint32_t)fits_by(&far, two, 2, "pass fit\n"), 1);
+    is("a tetrahedron", topo_new(four, 4, sides, 4, &t, &fault), TOPO_DONE);
+    edits.done = 7;
+    refused("cells of no side", topo_fit_by(&t, &no_side, last_none, 2, &edits, &fault), TOPO_NO_SIDE, 0, 0, 0);
+    refused("no cells", topo_fit_by(&t, &none, 0, 0, &edits, &fault), TOPO_MISCOUNTED, 0, 0, 0);
+    refused("fewer bands than cells", topo_fit_by(&t, &along_x, last_none, 2, &edits, &fault), TOPO_MISCOUNTED, 0, 0, 0);
+    refused("more bands than cells", topo_fit_by(&t, &along_y, three, 3, &edits, &fault), TOPO_MISCOUNTED, 0, 0, 0);
+    refused("2^64 cells", topo_fit_by(&t, &wraps, 0, 0, &edits, &fault), TOPO_MISCOUNTED, 0, 0, 0);
+    refused("a band of one length", topo_fit_by(&t, &along_y, last_none, 2, &edits, &fault), TOPO_NO_BAND, 1, 0, 0);
+    refused("a band above 2^30", topo_fit_by(&t, &along_y, high, 2, &edits, &fault), TOPO_NO_BAND, 0, 0, 0);
+    is("tell no number", (uint32_t)edits.done, 7);
+    is("and no line", (uint32_t)tells(""), 1);
+    topo_free(&t);
+    refused("a table that is none, of no tracker", topo_fit_by(&t, &no_side, two, 2, &edits, &fault), TOPO_NO_SIDE, 0, 0, 0);
+    is("a table, of no tracker", topo_fit_by(&t, &along_y, two, 2, &edits, &fault), TOPO_EMPTY);
+}
+
 /* what a tracker needs to go on with its ids */
 static struct topo_vertex points[16];
 static struct topo_face faces[16];
@@ -644,6 +687,7 @@ int main(void)
     shifts();
     groups();
     passes();
+    tables();
     left();
     numbered();
     edits_of_a_tetrahedron();

@@ -138,6 +138,18 @@ void edits()
     is("and its vertex is gone", surface.star(7).empty() && surface.beside(1, 7).empty() && surface.counts().next_vertex == 7);
 }
 
+void tables()
+{
+    topo_tracker surface = tetrahedron({0.1});
+    const topo_edits fitted = surface.fit_by({-2, 0, 0}, 2, {3, 1, 1}, {{0.1, 10}, {0.1, 10}, {0.1, 4.5}});
+    is("two edges are long in the last cell", fitted.done == 2 && fitted.refused == 0);
+    is("as their lines tell", surface.log() == "pass fit\nsplit 2 3 5 20 20 0\nsplit 2 4 6 20 0 20\n");
+    is("a band of one length", ends([&] { surface.fit_by({0, 0, 0}, 2, {2, 1, 1}, {{1, 2}, {2, 2}}); }, TOPO_REFUSED, TOPO_NO_BAND, 1));
+    is("fewer bands than cells", ends([&] { surface.fit_by({0, 0, 0}, 2, {2, 1, 1}, {{1, 2}}); }, TOPO_REFUSED, TOPO_MISCOUNTED));
+    is("cells of no side", ends([&] { surface.fit_by({0, 0, 0}, 0.04, {1, 1, 1}, {{1, 2}}); }, TOPO_REFUSED, TOPO_NO_SIDE));
+    is("a length below zero", throws<std::out_of_range>([&] { surface.fit_by({0, 0, 0}, 2, {1, 1, 1}, {{-1, 2}}); }));
+}
+
 void logs()
 {
     topo_tracker surface = tetrahedron({0.01});
@@ -162,6 +174,7 @@ int main()
     settings();
     shifts();
     edits();
+    tables();
     logs();
     std::printf("%d hold, %d do not\n", held, failed);
     return failed != 0;

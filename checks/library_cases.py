@@ -151,6 +151,41 @@ def edits():
         holds("its log", log.startswith("split 1 2 5 20 0 0\nno pinch 4 onefan\n") and log.endswith("close undone\nno pinch 4 onefan\n") and surface.log() == "")
 
 
+def tables():
+    cells, bands = ((-2, 0, 0), 2, (3, 1, 1)), [(0.1, 10), (0.1, 10), (0.1, 4.5)]
+    with tetrahedron() as surface:
+        holds("two edges are long in the last cell", surface.fit_by(*cells, bands) == (2, 0))
+        holds("as their lines tell", surface.log() == "pass fit\nsplit 2 3 5 20 20 0\nsplit 2 4 6 20 0 20\n")
+        says("fewer bands than cells", topo.TopoError, "topo_fit_by|not as many bands as cells", lambda: surface.fit_by(*cells, bands[1:]))
+        says("no cells and no bands", topo.TopoError, "topo_fit_by|no cell", lambda: surface.fit_by((0, 0, 0), 2, (0, 1, 1), []))
+        says("cells of no side", topo.TopoError, "the side of the cells is 0", lambda: surface.fit_by((0, 0, 0), 0.04, (3, 1, 1), bands))
+        says("a band of one length", topo.TopoError, "band at place 1", lambda: surface.fit_by(*cells, [(1, 2), (2, 2), (2, 2)]))
+        says("a band of three", ValueError, "band 1 has 3 numbers", lambda: surface.fit_by(*cells, [(1, 2), (2, 3, 4), (2, 3)]))
+        says("a length below zero", OverflowError, "a length is -1", lambda: surface.fit_by(*cells, [(-1, 2), *bands[1:]]))
+        says("a length that is too far", OverflowError, "2^30", lambda: surface.fit_by(*cells, [*bands[1:], (1, 1e9)]))
+        says("two numbers of cells", ValueError, "the numbers of cells has 2 numbers", lambda: surface.fit_by((0, 0, 0), 2, (3, 1), bands))
+        says("a number of cells below zero", ValueError, "a number of cells is -1", lambda: surface.fit_by((0, 0, 0), 2, (3, -1, -1), bands))
+    half_of_an_octahedron()
+
+
+def half_of_an_octahedron():
+    """An octahedron gets short edges where x is 0 and more: each edge there is short in the end, and the half below has only those that end at x = 0."""
+    points = [(1, 0, 0), (-1, 0, 0), (0, 1, 0), (0, -1, 0), (0, 0, 1), (0, 0, -1)]
+    faces = [(1, 3, 5), (3, 2, 5), (2, 4, 5), (4, 1, 5), (3, 1, 6), (2, 3, 6), (4, 2, 6), (1, 4, 6)]
+    bands = [(0.05, 0.3 if k % 2 else 1.5) for k in range(8)]
+    with topo.Tracker(points, faces, unit=0.001, library=LIBRARY) as surface:
+        while surface.fit_by((-2, -2, -2), 2, (2, 2, 2), bands)[0]:
+            pass
+        at = {v: p for v, *p in surface.leave().vertices}
+        edges = {(a, b) for f in surface.faces().values() for a, b in zip(f, (*f[1:], f[0])) if a < b}
+        longest = {(at[a][0] + at[b][0]) // 2 >= 0: 0 for a, b in edges}
+        for a, b in edges:
+            there = (at[a][0] + at[b][0]) // 2 >= 0
+            longest[there] = max(longest[there], sum((p - q) ** 2 for p, q in zip(at[a], at[b])) ** 0.5)
+        holds("short edges in the one half", longest[True] <= 300 and 300 < longest[False] <= 1500)
+        holds("and one vertex in the other", [v for v, p in at.items() if p[0] < 0] == [2] and len(at) > 50)
+
+
 def one_thread():
     with tetrahedron() as surface:
         said = []
@@ -191,6 +226,7 @@ def arrays(numpy):
         holds("columns of arrays", surface.vertices() == {1: (0.0, 0.0, -1.0), 2: (125.0, 0.0, 0.0), 3: (1.0, 125.0, 1.0), 4: (1.0, 1.0, 125.0)})
         answers = surface.edit_each(numpy.array([(2, 1, 2, 0, 0), (6, 4, 0, 0, 0)], numpy.int16))
         holds("edits of arrays", answers["why"].tolist() == [0, 7] and answers["a"].tolist() == [5, 0])
+        holds("bands of arrays", surface.fit_by((0, 0, 0), 500, (1, 1, 2), numpy.array([[1, 100], [1, 200]], numpy.float32)) == (7, 0))
         says("shifts of another number", ValueError, "2 ids|1 rows", lambda: surface.shift(ids[:2], numpy.zeros((1, 3))))
         says("an array of two columns", ValueError, "shift 1 has 2 numbers", lambda: surface.shift(ids[:2], numpy.zeros((2, 2))))
         says("ids that are no whole numbers", TypeError, "id 1", lambda: surface.shift(numpy.array([1.0]), numpy.zeros((1, 3))))
@@ -202,7 +238,7 @@ def main():
     found = topo.numpy
     for numpy in (None, found) if found else (None,):
         topo.numpy = numpy
-        for cases in (shapes, ids, settings, edits, one_thread):
+        for cases in (shapes, ids, settings, edits, tables, one_thread):
             cases()
     if found:
         arrays(found)

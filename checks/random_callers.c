@@ -291,12 +291,30 @@ static void step(void)
     must(topo_step(&t, &way, &fault), 1, "topo_step");
 }
 
+/* a pass by a table of up to three cells each way, whose bands are near a length */
+static void fit_by_cells(uint32_t length)
+{
+    struct topo_band bands[27];
+    struct topo_edits edits;
+    const struct topo_vertex *corner = vertices + dice((uint32_t)vertex_count);
+    const struct topo_cells cells = {corner->x, corner->y, corner->z, length + 1, 1 + dice(3), 1 + dice(3), 1 + dice(3)};
+    const uint32_t count = cells.nx * cells.ny * cells.nz;
+    uint32_t i;
+    for (i = 0; i < count; ++i) {
+        bands[i].low = length / (2 + dice(4));
+        bands[i].high = 2 * length + 1 + dice(length + 1);
+    }
+    must(topo_fit_by(&t, &cells, bands, count, &edits, &fault), 0, "topo_fit_by");
+}
+
 static void pass(void)
 {
     struct topo_edits edits;
     const uint32_t length = a_length(100), kind = dice(6);
     if (kind == 0 && face_count < MANY_FACES)
         must(topo_split(&t, length, &edits, &fault), 0, "topo_split");
+    else if (kind == 1 && vertex_count > 0 && dice(2))
+        fit_by_cells(length);
     else if (kind == 1)
         must(topo_fit(&t, length / 4, 2 * length + 1, &edits), 0, "topo_fit");
     else if (kind == 2)

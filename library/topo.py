@@ -63,6 +63,9 @@ REASONS = {
     20: "the id of the vertex at place {a} is 0, or not above the one before, or not below that of the next vertex",
     21: "the id of the face at place {a} is 0, or not above the one before, or not below that of the next face",
     22: "vertex {a}, which is to be solid, does not live, or is not above the one before",
+    23: "the side of the cells is 0",
+    24: "there is no cell, or there are not as many bands as cells",
+    25: "the band at place {a}, from 0, has no low length below its high one, or that is above 2^30 units of the grid",
 }
 
 
@@ -84,10 +87,12 @@ ComponentRow = type("ComponentRow", (ctypes.Structure,), {"_fields_": [("vertex"
                                                                       ("volume6_high", ctypes.c_int64)]})
 Asked = struct("Asked", kind_a_b_c_d=u32)
 Answered = struct("Answered", why_a_b_c=u32, x_y_z=i32)
+Band = struct("Band", low_high=u32)
+Cells = struct("Cells", x_y_z=i32, side_nx_ny_nz=u32)
 
-CALLS = ("topo_new topo_new_numbered topo_free topo_shift_each topo_shift_all topo_set topo_step topo_split topo_collapse topo_flip topo_zip topo_pinch topo_fit topo_edit_each "
-         "topo_close_fold topo_solid topo_open topo_close topo_undo topo_counts topo_points topo_faces topo_star topo_beside topo_components topo_solids topo_events "
-         "topo_log topo_forget topo_keep topo_version topo_calls").split()
+CALLS = ("topo_new topo_new_numbered topo_free topo_shift_each topo_shift_all topo_set topo_step topo_split topo_collapse topo_flip topo_zip topo_pinch topo_fit topo_fit_by "
+         "topo_edit_each topo_close_fold topo_solid topo_open topo_close topo_undo topo_counts topo_points topo_faces topo_star topo_beside topo_components topo_solids "
+         "topo_events topo_log topo_forget topo_keep topo_version topo_calls").split()
 
 Component = collections.namedtuple("Component", "vertex faces euler volume")
 Answer = collections.namedtuple("Answer", "why a b c at")
@@ -408,6 +413,35 @@ class Tracker:
         """Splits each longer edge and collapses each shorter one, and tells how many edits were done and refused."""
         self.call("topo_fit", self.length(low), self.length(high), ref(self.edits))
         return self.edits.done, self.edits.refused
+
+    def fit_by(self, corner, side, many, bands):
+        """The same by a table of bands, rows of a low and a high length: of cells that are cubes of a side, so many along each axis, from a corner on, x
+        running first, then y, then z. An edge goes by the cell in which its middle lies, or by the nearest."""
+        counts = [whole(count, 0, WORD_MAX, "a number of cells") for count in row_of(many, 3, "the numbers of cells")]
+        cells = Cells(*self.to_grid(corner), self.length(side), *counts)
+        self.call("topo_fit_by", ref(cells), *buffer_of(Band, self.band_rows(bands)), ref(self.edits), ref(self.fault))
+        return self.edits.done, self.edits.refused
+
+    def band_rows(self, bands):
+        """Rows of two lengths in units of the grid: a table of numpy's, or a list of tuples."""
+        table = self.band_table(bands)
+        if table is not None:
+            return table
+        rows = [tuple(self.length(length).value for length in row_of(row, 2, "band", k)) for k, row in enumerate(bands)]
+        return rows if numpy is None else numpy.array(rows, numpy.int64).reshape(-1, 2)
+
+    def band_table(self, bands):
+        """The same by columns, where numpy is there and nothing is to be refused; and else None."""
+        if numpy is None:
+            return None
+        try:
+            table = numpy.asarray(bands, numpy.float64)
+        except (TypeError, ValueError, OverflowError):
+            return None
+        if table.ndim != 2 or table.shape[1] != 2 or table.size == 0 or not numpy.isfinite(table).all() or (table < 0).any():
+            return None
+        near = numpy.rint(table / self.unit)
+        return near.astype(numpy.int64) if (near <= LENGTH_MAX).all() else None
 
     def edit_each(self, asked):
         """Edits by ids, each in turn, and a row for what came of each; in an open group the first that is refused is the last that is asked. An edit is a word

@@ -1,5 +1,6 @@
 -- A call on the tracker of a handle, by the call on the tracker.
 use Rattle.std.proofs.Common.{◌≡◌, ℕ, Bool, List, Option, Some, refl, sym, subst}
+use Rattle.grid_base.specs.declared.Point.{Point}
 use Rattle.mesh_sizing.specs.declared.sizing.Band.{Band}
 use Rattle.step_text.specs.declared.Directive.{Directive}
 use Rattle.track_engine.specs.State.{State}
@@ -26,8 +27,8 @@ module _ (old new : Option Tracker) (s t : Tracker) (held : old ≡ Some s) (hol
   pub sets : (set : Settings) (code : ℕ) → HasSet set s t code → HandleHasSet set old new code
   sets set code h = let P : Option Tracker → Type 0 = λ o. HandleHasSet set o new code in subst P (sym held) (t, holds, h)
 
-  pub fits : (band : Band) (before after : TopoEdits) (code : ℕ) → HasFitted band s t before after code → HandleHasFitted band old new before after code
-  fits band before after code h = let P : Option Tracker → Type 0 = λ o. HandleHasFitted band o new before after code in subst P (sym held) (t, holds, h)
+  pub fits : (may_size : Point → Band → Type 0) (before after : TopoEdits) (code : ℕ) → HasFitted may_size s t before after code → HandleHasFitted may_size old new before after code
+  fits may_size before after code h = let P : Option Tracker → Type 0 = λ o. HandleHasFitted may_size o new before after code in subst P (sym held) (t, holds, h)
 
   pub wrote : (effect : State → Effect) (code : ℕ) → HasWritten (effect (tracked s)) s t code → HandleHasWritten effect old new code
   wrote effect code h = let P : Option Tracker → Type 0 = λ o. HandleHasWritten effect o new code in subst P (sym held) (t, holds, h)

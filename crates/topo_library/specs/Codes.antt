@@ -3,6 +3,7 @@ use Rattle.std.specs.Prelude.{◌≡◌, ◌≢◌, ◌≤◌, ◌<◌, ◌↔�
 use Rattle.std.specs.Prelude.{List, [], ◌∷◌, ◌++◌, length, drop, map}
 use Rattle.std.specs.FinMap as finite
 use Rattle.grid_base.specs.declared.TheConstants.{DEPTH_MAX, HALVINGS_MAX, VERTICES_MAX, FACES_MAX}
+use Rattle.grid_base.specs.declared.Point.{Point}
 use Rattle.mesh_base.specs.Mesh.{Mesh}
 use Rattle.mesh_base.specs.Valid.{IsValidSurface}
 use Rattle.mesh_base.specs.declared.UseWhy.{UseWhy}
@@ -35,7 +36,6 @@ use Rattle.track_held.specs.declared.editing_given.GivenEdit.{GivenEdit}
 use Rattle.track_held.specs.declared.editing_given.ToldAnswer.{ToldAnswer}
 use Rattle.track_held.specs.Asking.{CanBeAsked, asking, CanAllBeAsked, asking_all}
 use Rattle.track_held.specs.Editing.{edits_asked, answer_told}
-use Rattle.track_held.specs.Fitting.{always}
 use Rattle.track_held.specs.Given.{given_mesh, make_fault}
 use Rattle.track_held.specs.Held.{engine_in, keeps_lines, lines_in, log_in, goes_on}
 use Rattle.track_held.specs.Numbered.{numbered_fault}
@@ -190,20 +190,20 @@ HandleHasEdited rows None new into now before taken code =
 HandleHasEdited rows (Some s) new into now before taken code =
     (t : Tracker) × (new ≡ Some t) × HasEdited rows s t into now before taken code
 
--- ---- a pass by a band
+-- ---- a pass by a sizing
 
--- What a code says of a call that makes a pass by a band of lengths with the tracker s, which then
--- is t. It is never refused.
-pub record HasFitted (band : Band) (s t : Tracker) (before after : TopoEdits) (code : ℕ)
-    : Type 0 where
+-- What a code says of a call that makes a pass with the tracker s, which then is t, by a sizing that
+-- may answer so: at which point which band. It is never refused.
+pub record HasFitted (may_size : Point → Band → Type 0) (s t : Tracker) (before after : TopoEdits)
+    (code : ℕ) : Type 0 where
   -- 0: its lines were told, the tracker stands in the state after it, and it is told how many of
   -- the lines are of done edits, and of refused ones
   pub done : code ≡ 0 →
       (count : PassCount) × (after ≡ edits_told count)
-      × FitTells (always band) (tracked s) (tracked t) (told s) (told t) (Ok count)
+      × FitTells may_size (tracked s) (tracked t) (told s) (told t) (Ok count)
   -- 1: there was no memory: nothing was told, or a part of its lines, and the tracker is stopped
   pub memory : code ≡ 1 →
-      FitTells (always band) (tracked s) (tracked t) (told s) (told t) (Err NoMemory)
+      FitTells may_size (tracked s) (tracked t) (told s) (told t) (Err NoMemory)
       × ¬ GoesOn t
   -- but at 0 no number is told
   pub untold : code ≢ 0 → after ≡ before
@@ -216,11 +216,12 @@ pub record HasFitted (band : Band) (s t : Tracker) (before after : TopoEdits) (c
   pub among : (code ≡ 0) ⊎ (code ≡ 1) ⊎ (code ≡ 5) ⊎ (code ≡ 6)
 
 -- the same of a handle
-abbrev pub HandleHasFitted : Band → Option Tracker → Option Tracker → TopoEdits → TopoEdits → ℕ →
-    Type 0
-HandleHasFitted band None new before after code = (code ≡ 4) × (new ≡ None) × (after ≡ before)
-HandleHasFitted band (Some s) new before after code =
-    (t : Tracker) × (new ≡ Some t) × HasFitted band s t before after code
+abbrev pub HandleHasFitted : (Point → Band → Type 0) → Option Tracker → Option Tracker →
+    TopoEdits → TopoEdits → ℕ → Type 0
+HandleHasFitted may_size None new before after code =
+    (code ≡ 4) × (new ≡ None) × (after ≡ before)
+HandleHasFitted may_size (Some s) new before after code =
+    (t : Tracker) × (new ≡ Some t) × HasFitted may_size s t before after code
 
 -- ---- settings
 

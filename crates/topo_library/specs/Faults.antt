@@ -17,6 +17,8 @@ use Rattle.mesh_rows.specs.declared.faults.RowsFault.TheVariants.{NoVertex as No
 use Rattle.mesh_rows.specs.declared.faults.RowsFault.TheVariants.{Doubled as Equal}
 use Rattle.mesh_rows.specs.declared.faults.RowsFault.TheVariants.{Unbalanced as Uneven, NextVertex, NextFace}
 use Rattle.mesh_rows.specs.declared.faults.RowsFault.TheVariants.{VertexOrder, FaceOrder, NotSolid}
+use Rattle.track_held.specs.declared.band_table.TableFault.{TableFault}
+use Rattle.track_held.specs.declared.band_table.TableFault.TheVariants.{NoSide, Miscounted, NoBand}
 use Rattle.topo_library.specs.declared.fault.TopoFault.{TopoFault}
 
 -- a reason and its place
@@ -62,6 +64,12 @@ abbrev pub numbered_place : NumberedFault → TopoFault
 numbered_place (OutsideBox number) = fault_at 10 number 0 0
 numbered_place (Rows fault) = rows_place fault
 numbered_place (MeetsPair pair) = fault_at 17 pair.a pair.b pair.face
+
+-- what is wrong with cells and their bands: of a band that is none, its place, from 0
+abbrev pub table_place : TableFault → TopoFault
+table_place NoSide = fault_at 23 0 0 0
+table_place Miscounted = fault_at 24 0 0 0
+table_place (NoBand place) = fault_at 25 (capped place) 0 0
 
 -- why a directive is refused, and for which vertex
 abbrev pub use_place : UseWhy → TopoFault

@@ -6,6 +6,8 @@ ghost use Rattle.step_text.specs.Ranges.{IsInRange};
 ghost use Rattle.step_text.specs.declared.Directive.TheVariants.{Step, Pass, Close};
 ghost use Rattle.track_engine.specs.Told.{step_told, pass_told};
 ghost use Rattle.track_held.specs.Asking.{AsksNothing};
+ghost use Rattle.track_held.specs.Fitting.{always};
+ghost use Rattle.track_held.specs.Tables.{by_cells};
 ghost use Rattle.topo_library.specs.Codes.{tracked, HandleHasDone, HandleHasTold, HandleHasSet, HandleHasFitted, HandleHasShifted, HandleHasShiftedAll, HasShiftedEach, HandleHasShiftedEach};
 ghost use Rattle.topo_library.specs.Tellings.{way_told, edits_told, closing_of};
 
@@ -19,7 +21,7 @@ use mesh_sizing::Band;
 use std::alloc::Global;
 use step_choose::Settings;
 use step_text::Directive;
-use track_held::{NamedPoint, asking, asking_all};
+use track_held::{BandTable, NamedPoint, asking, asking_all};
 
 /// Does a directive with the tracker of a handle.
 pub(crate) fn advance(
@@ -179,13 +181,31 @@ pub(crate) fn set(alloc: Global, topo: &mut Topo, set: Settings) -> u32
 /// Makes a pass by a band of lengths with the tracker of a handle, and tells how many edits it did and how many were refused.
 pub(crate) fn fit(alloc: Global, topo: &mut Topo, band: Band, edits: &mut TopoEdits) -> u32
     requires { IsBand band }
-    ensures { HandleHasFitted band topo.old.owned.value topo.new.owned.value
+    ensures { HandleHasFitted (always band) topo.old.owned.value topo.new.owned.value
         edits.old edits.new result }
 {
     let Some(mut b) = topo.take(alloc) else {
         return EMPTY;
     };
     let code = b.fit(alloc, band, edits);
+    topo.give(b);
+    code
+}
+
+/// Makes a pass by a table of bands with the tracker of a handle, and tells the same.
+pub(crate) fn fit_by(
+    alloc: Global,
+    topo: &mut Topo,
+    table: &BandTable<'_>,
+    edits: &mut TopoEdits,
+) -> u32
+    ensures { HandleHasFitted (by_cells table.now.cells table.now.bands.now)
+        topo.old.owned.value topo.new.owned.value edits.old edits.new result }
+{
+    let Some(mut b) = topo.take(alloc) else {
+        return EMPTY;
+    };
+    let code = b.fit_by(alloc, table, edits);
     topo.give(b);
     code
 }

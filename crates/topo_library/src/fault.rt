@@ -1,10 +1,10 @@
 //! Why something is refused, for C.
 ghost use Rattle.std.specs.Prelude.{◌≡◌};
-ghost use Rattle.topo_library.specs.Faults.{capped, shape_place, use_place, make_place, rows_place, numbered_place};
+ghost use Rattle.topo_library.specs.Faults.{capped, shape_place, use_place, make_place, rows_place, numbered_place, table_place};
 
 use mesh_base::{ShapeFault, UseWhy};
 use mesh_rows::RowsFault;
-use track_held::{MakeFault, NumberedFault};
+use track_held::{MakeFault, NumberedFault, TableFault};
 
 /// Why something is refused: a number for the reason, and up to three numbers that tell its place.
 #[repr(C)]
@@ -86,6 +86,17 @@ pub(crate) fn numbered_place(fault: NumberedFault) -> TopoFault
         NumberedFault::Outside { number } => fault_at(10, number, 0, 0),
         NumberedFault::Rows(fault) => rows_place(fault),
         NumberedFault::Meets(pair) => fault_at(17, pair.a.0, pair.b.0, pair.face.0),
+    }
+}
+
+/// What is wrong with cells and their bands.
+pub(crate) fn table_place(fault: TableFault) -> TopoFault
+    ensures { result ≡ table_place fault }
+{
+    match fault {
+        TableFault::NoSide => fault_at(23, 0, 0, 0),
+        TableFault::Miscounted => fault_at(24, 0, 0, 0),
+        TableFault::NoBand { place } => fault_at(25, capped(place as u64), 0, 0),
     }
 }
 

@@ -6,7 +6,7 @@
 //! The tracker is that of Brochu and Bridson, "Robust topological operations for dynamic explicit surfaces" (2009).
 #![tactic(auto)]
 
-ghost use Rattle.std.specs.Prelude.{◌≡◌, ◌≤◌, ◌<◌, None};
+ghost use Rattle.std.specs.Prelude.{◌≡◌, ◌≤◌, ◌<◌, None, Some};
 ghost use Rattle.grid_base.specs.declared.TheConstants.{LENGTH_MAX, ID_MAX};
 ghost use Rattle.grid_base.specs.Meeting.{MeetAt};
 ghost use Rattle.grid_base.specs.Motion.{NeverMeet};
@@ -22,6 +22,10 @@ ghost use Rattle.track_held.specs.Events.{log_events};
 ghost use Rattle.track_held.specs.Reading.{named_points, named_faces, solid_vertices, star_of, beside_edge};
 ghost use Rattle.track_held.specs.Numbered.{given_rows};
 ghost use Rattle.track_held.specs.Editing.{ends};
+ghost use Rattle.track_held.specs.Fitting.{always};
+ghost use Rattle.track_held.specs.Tables.{table_fault, by_cells};
+ghost use Rattle.track_held.specs.declared.band_table.TableFault.{TableFault};
+ghost use Rattle.topo_library.specs.Faults.{table_place};
 ghost use Rattle.topo_library.specs.Folded.{HandleHasClosedFold};
 ghost use Rattle.topo_library.specs.Components.{told_components};
 ghost use Rattle.topo_library.specs.Codes.{tracked, lines_told, HandleHasDone, HandleHasTold, IsBeyond, AreSettings, HandleHasSet, HandleHasFitted, HandleHasWritten, HandleHasEdited, HandleHasShifted, HandleHasShiftedAll, HandleHasShiftedEach, HasMade, HasMadeNumbered, HandleHasPut, HandleHasForgotten, HandleHasKept, HandleHasTakenLog, HandleHasCounted};
@@ -45,12 +49,14 @@ mod telling;
 mod tracker;
 
 use alone::{TopoFive, tell_meets, tell_passes};
-use calling::{advance, close, fit, pass_with, set, shift_each, shift_every, shift_one, step};
-use codes::RANGE;
+use calling::{
+    advance, close, fit, fit_by, pass_with, set, shift_each, shift_every, shift_one, step,
+};
+use codes::{RANGE, REFUSED};
 use components::TopoComponent;
 use edit_base::PassKind;
 use editing::{edit_each, undo};
-use fault::TopoFault;
+use fault::{TopoFault, table_place};
 use folding::close_fold;
 use grid_base::{ID_MAX, LENGTH_MAX};
 use handle::Topo;
@@ -65,7 +71,10 @@ use settings::{band_of, settings_at};
 use std::alloc::Global;
 use step_text::Directive;
 use telling::{TopoCounted, TopoEdits, TopoWay};
-use track_held::{Event, GivenEdit, GivenFace, GivenPoint, NamedFace, NamedPoint, ToldAnswer};
+use track_held::{
+    BandTable, Cells, Event, GivenBand, GivenEdit, GivenFace, GivenPoint, NamedFace, NamedPoint,
+    ToldAnswer,
+};
 
 /// The version of these calls. It rises where what one of them takes or answers changes, and where one is gone.
 pub const CALLS: u32 = 3;
@@ -335,12 +344,40 @@ pub extern "C" fn topo_fit(
     ensures beyond { ¬ IsBand (band_of low high) →
         (result ≡ 3) × (topo.new.owned.value ≡ topo.old.owned.value)
         × (edits.new ≡ edits.old) }
-    ensures fits { IsBand (band_of low high) → HandleHasFitted (band_of low high)
+    ensures fits { IsBand (band_of low high) → HandleHasFitted (always (band_of low high))
         topo.old.owned.value topo.new.owned.value edits.old edits.new result }
 {
     match band_of(low, high) {
         Some(band) => fit(alloc, topo, band, edits),
         None => RANGE,
+    }
+}
+
+/// The same by a table: how long an edge may be goes by the cell in which its middle lies, or by the nearest cell. Refused where the cells have no
+/// side, there is none, there is not a band for each, or a band's `low` is not below its `high`, or that is above `LENGTH_MAX`.
+#[unsafe(no_mangle)]
+pub extern "C" fn topo_fit_by(
+    alloc: Global,
+    topo: &mut Topo,
+    cells: &Cells,
+    bands: &[GivenBand],
+    edits: &mut TopoEdits,
+    fault: &mut TopoFault,
+) -> u32
+    ensures refused { (why : TableFault) → table_fault cells.now bands.now ≡ Some why →
+        (result ≡ 2) × (topo.new.owned.value ≡ topo.old.owned.value)
+        × (edits.new ≡ edits.old) × (fault.new ≡ table_place why) }
+    ensures fits { table_fault cells.now bands.now ≡ None →
+        HandleHasFitted (by_cells cells.now bands.now)
+        topo.old.owned.value topo.new.owned.value edits.old edits.new result }
+    ensures faultless { table_fault cells.now bands.now ≡ None → fault.new ≡ fault.old }
+{
+    match BandTable::new(*cells, bands) {
+        Ok(table) => fit_by(alloc, topo, &table, edits),
+        Err(why) => {
+            *fault = table_place(why);
+            REFUSED
+        }
     }
 }
 

@@ -14,7 +14,7 @@ use pass_run::Answers;
 use std::alloc::Global;
 use step_choose::Settings;
 use step_text::Directive;
-use track_held::Held;
+use track_held::{BandTable, Held};
 
 /// A tracker over a mesh in half-edges.
 #[derive(Drop)]
@@ -26,6 +26,8 @@ impl Tracker {
     ghost use Rattle.step_text.specs.declared.Directive.TheVariants.{Step, Pass, Close};
     ghost use Rattle.track_engine.specs.Told.{step_told, pass_told};
     ghost use Rattle.track_held.specs.Asking.{AsksNothing};
+    ghost use Rattle.track_held.specs.Fitting.{always};
+    ghost use Rattle.track_held.specs.Tables.{by_cells};
     ghost use Rattle.track_engine.specs.Effects.{edits_effect, edited_answers, undo_effect};
     ghost use Rattle.topo_library.specs.Codes.{tracked, HasDone, HasTold, HasSet, HasFitted, HasWritten};
     ghost use Rattle.topo_library.specs.Tellings.{way_told, edits_told, closing_of, undone_of};
@@ -122,7 +124,7 @@ impl Tracker {
     /// Makes a pass by a band of lengths, and answers how that went.
     pub(crate) fn fit(&mut self, alloc: Global, band: Band, edits: &mut TopoEdits) -> u32
         requires { IsBand band }
-        ensures { HasFitted band self.old self.new edits.old edits.new result }
+        ensures { HasFitted (always band) self.old self.new edits.old edits.new result }
     {
         if !self.held.goes_on() {
             return STOPPED;
@@ -131,6 +133,31 @@ impl Tracker {
             return SPENT;
         }
         match self.held.fit(alloc, band) {
+            Ok(count) => {
+                *edits = edits_told(count);
+                DONE
+            }
+            Err(_) => NO_MEMORY,
+        }
+    }
+
+    /// Makes a pass by a table of bands, and answers how that went.
+    pub(crate) fn fit_by(
+        &mut self,
+        alloc: Global,
+        table: &BandTable<'_>,
+        edits: &mut TopoEdits,
+    ) -> u32
+        ensures { HasFitted (by_cells table.now.cells table.now.bands.now) self.old self.new
+            edits.old edits.new result }
+    {
+        if !self.held.goes_on() {
+            return STOPPED;
+        }
+        if !self.held.has_room() {
+            return SPENT;
+        }
+        match self.held.fit_by(alloc, table) {
             Ok(count) => {
                 *edits = edits_told(count);
                 DONE

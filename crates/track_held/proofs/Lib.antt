@@ -4,6 +4,7 @@ pub mod Numbers
 pub mod Written
 pub mod Closed
 pub mod Fitted
+pub mod Tables
 pub mod NumberedFaults
 pub mod PutAnswers
 pub mod EditRanges

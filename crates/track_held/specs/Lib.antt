@@ -6,6 +6,7 @@ pub mod Reading
 pub mod Closings
 pub mod Events
 pub mod Fitting
+pub mod Tables
 pub mod Numbered
 pub mod Editing
 pub mod Folds

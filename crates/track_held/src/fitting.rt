@@ -1,4 +1,4 @@
-//! A pass by a band of lengths that is the same everywhere.
+//! Passes by a band of lengths that is the same everywhere, and by a table of bands.
 ghost use Rattle.std.specs.Prelude.{◌≡◌, true, false, Some, IfOk, OnErr, IfErr};
 ghost use Rattle.mesh_sizing.specs.Sizes.{IsBand, IsWellKept as SizesWell, MayAnswer as MaySize};
 ghost use Rattle.outside_io.specs.declared.stop.Stop.TheVariants as cause;
@@ -6,8 +6,10 @@ ghost use Rattle.track_engine.specs.Engines.{state_in};
 ghost use Rattle.track_engine.specs.Parts.{FitTells};
 ghost use Rattle.track_engine.specs.Ready.{IsReady};
 ghost use Rattle.track_held.specs.Fitting.{always};
+ghost use Rattle.track_held.specs.Tables.{by_cells};
 ghost use Rattle.log_write.specs.Kept.{told_in};
 
+use crate::band_table::BandTable;
 use crate::held::Held;
 use grid_base::Point;
 use log_write::KeptLines;
@@ -56,6 +58,35 @@ impl<S: Surface> Held<S> {
             move |_at: Point| -> Band
                 ensures { result ≡ band }
             { band },
+        );
+        match tell_fit(alloc, &mut self.engine, &sizing, &mut self.log) {
+            Ok(count) => {
+                self.engine.settle_outside_groups();
+                Ok(count)
+            }
+            Err(_stop) => {
+                self.goes_on = false;
+                Err(Stop::NoMemory)
+            }
+        }
+    }
+
+    /// The same by a table: the band of an edge is that of the cell in which the middle of the edge lies, or of the nearest cell.
+    pub fn fit_by(&mut self, alloc: Global, table: &BandTable<'_>) -> Result<PassCount, Stop>
+        requires goes_on { goes_on self.old ≡ true }
+        ensures goes_on { IfOk result (λ _. goes_on self.new ≡ true) }
+        ensures stopped { OnErr result (goes_on self.new ≡ false) }
+        // There is no other cause to stop.
+        ensures why { IfErr result (λ stop. stop ≡ cause.NoMemory) }
+        ensures tells { FitTells (by_cells table.now.cells table.now.bands.now)
+            (state_in S.mesh S.kept (engine_in self.old))
+            (state_in S.mesh S.kept (engine_in self.new))
+            (log_in self.old) (log_in self.new) result }
+    {
+        let sizing = Sizing::new(
+            move |at: Point| -> Band
+                ensures { by_cells table.entry.now.cells table.entry.now.bands.now at result }
+            { table.band_at(at) },
         );
         match tell_fit(alloc, &mut self.engine, &sizing, &mut self.log) {
             Ok(count) => {

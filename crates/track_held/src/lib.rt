@@ -4,6 +4,7 @@
 #![tactic(auto)]
 
 mod asked;
+mod band_table;
 mod closing;
 mod editing;
 mod editing_given;
@@ -19,6 +20,9 @@ mod reading;
 mod telling;
 
 pub use asked::{asking, asking_all};
+pub use band_table::{
+    BandTable, Cells, GivenBand, TableFault, cells_have_their_bands, ends_are_nearest,
+};
 pub use closing::Closing;
 pub use editing_given::{
     AskedEdits, GivenEdit, ToldAnswer, answer_told, edge_ends, edit_asked, edits_asked,
