@@ -3,6 +3,7 @@ pub mod Fans
 pub mod Ranks
 pub mod LinesOfItems
 pub mod Lookups
+pub mod InOrder
 pub mod RankBounds
 pub mod Again
 pub mod Renumbered

@@ -1,6 +1,5 @@
 -- A mesh that is written is read again.
 use Rattle.std.specs.Prelude.{◌≡◌, ℕ, ◌≤◌, List, map, Ok}
-use Rattle.std.specs.FinMap as finite
 use Rattle.grid_base.specs.declared.TheConstants.{DECIMALS_MAX}
 use Rattle.grid_base.specs.declared.Point.{Point}
 use Rattle.grid_base.specs.Points.{position_of}
@@ -10,7 +9,7 @@ use Rattle.mesh_base.specs.Placements.{IsClearMesh}
 use Rattle.mesh_base.specs.declared.limits.Scale.{Scale}
 use Rattle.mesh_base.specs.Given.{mesh_under}
 use Rattle.obj_text.specs.Obj.{lists_of}
-use Rattle.obj_text.specs.Written.{ranks, mesh_text, ranked_lists}
+use Rattle.obj_text.specs.Written.{mesh_text, ranked_lists, points_in_order, faces_by_rank}
 
 -- on a grid of as many decimals, the text gives the live points and the
 -- live faces in order, corners by rank
@@ -21,9 +20,7 @@ WrittenIsRead = (m : Mesh) (decimals : ℕ) → IsSound m → decimals ≤ DECIM
 -- the live vertices and the live faces numbered from 1 in order, corners by rank, with the limits
 -- of a scale
 abbrev pub renumbered : Scale → Mesh → Mesh
-renumbered scale m =
-    mesh_under scale (map (λ e. e.1) (finite.entries m.points))
-    (map (λ e. ranks m e.1) (finite.entries m.faces))
+renumbered scale m = mesh_under scale (points_in_order m) (faces_by_rank m)
 
 -- lists that the text gives make this mesh
 abbrev pub ListsGiveRenumbered : Type 0
