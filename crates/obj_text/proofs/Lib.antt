@@ -7,5 +7,6 @@ pub mod InOrder
 pub mod RankBounds
 pub mod Again
 pub mod Renumbered
+pub mod RanksInOrder
 pub mod ListsAgain
 pub mod WholeFaces

@@ -1,5 +1,6 @@
 -- A mesh that is written is read again.
 use Rattle.std.specs.Prelude.{◌≡◌, ℕ, ◌≤◌, List, map, Ok}
+use Rattle.std.specs.FinMap as finite
 use Rattle.grid_base.specs.declared.TheConstants.{DECIMALS_MAX}
 use Rattle.grid_base.specs.declared.Point.{Point}
 use Rattle.grid_base.specs.Points.{position_of}
@@ -9,7 +10,7 @@ use Rattle.mesh_base.specs.Placements.{IsClearMesh}
 use Rattle.mesh_base.specs.declared.limits.Scale.{Scale}
 use Rattle.mesh_base.specs.Given.{mesh_under}
 use Rattle.obj_text.specs.Obj.{lists_of}
-use Rattle.obj_text.specs.Written.{mesh_text, ranked_lists, points_in_order, faces_by_rank}
+use Rattle.obj_text.specs.Written.{rank, mesh_text, ranked_lists, points_in_order, faces_by_rank}
 
 -- on a grid of as many decimals, the text gives the live points and the
 -- live faces in order, corners by rank
@@ -38,3 +39,8 @@ StaysClosed = (scale : Scale) (m : Mesh) → IsSound m → IsClosed m → IsClos
 abbrev pub StaysClear : Type 0
 StaysClear = (scale : Scale) (m : Mesh) → IsSound m → IsClearMesh m →
     IsClearMesh (renumbered scale m)
+
+-- the vertices keep their order: each gets its rank as its id
+abbrev pub KeepsOrder : Type 0
+KeepsOrder = (scale : Scale) (m : Mesh) →
+    finite.keys (renumbered scale m).points ≡ map (rank m) (finite.keys m.points)
