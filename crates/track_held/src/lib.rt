@@ -16,6 +16,7 @@ mod held;
 mod making;
 mod making_numbered;
 mod reading;
+mod renumbering;
 mod telling;
 
 pub use asked::{asking, asking_all};
