@@ -1,5 +1,5 @@
 -- The vertices that are solid when a mesh is numbered anew are those that were, by their ranks.
-use Rattle.std.proofs.Common.{◌≡◌, ℕ, ◌+◌, ◌<◌, ◌⊎◌, ⊎_elim, Bool, true, false, cond, List, [], ◌∷◌, ◌++◌, length, get_or, map, Some, IsSome, is_some, refl, sym, ap, subst, ◌∙◌, arith, inl, inr}
+use Rattle.std.proofs.Common.{◌≡◌, ℕ, zero, suc, ◌+◌, ◌<◌, ◌⊎◌, ⊎_elim, Bool, true, false, cond, List, [], ◌∷◌, ◌++◌, length, get_or, map, Some, IsSome, is_some, refl, sym, ap, subst, ◌∙◌, arith, inl, inr}
 use Rattle.std.specs.List.{AllByRecursion, filter}
 use Rattle.std.specs.Prelude.{All}
 use Rattle.std.specs.Ordering.{nat_cmp}
@@ -57,6 +57,12 @@ solid_among P m (v ∷ vs) u h solid = ⊎_elim
     (solid_among P (with_solid m v) vs u h.1 solid)
 
 -- ---- the live vertices
+
+-- what holds of each, one after another, holds of each
+pub all_of : {X : Type 0} (P : X → Type 0) (xs : List X) → AllByRecursion P xs → All P xs
+all_of P [] h k d lt = absurd (omega arith)
+all_of P (x ∷ xs) h zero d lt = h.0
+all_of P (x ∷ xs) h (suc k) d lt = all_of P xs h.1 k d (omega arith)
 
 module _ (m : Mesh) where
   found_along : (es : List (ℕ × Point)) → AllByRecursion (λ e. find nat_cmp e.0 (finite.entries m.points) ≡ Some e.1) es → AllByRecursion (IsLiveVertex m) (map (λ e. e.0) es)
