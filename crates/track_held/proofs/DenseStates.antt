@@ -1,5 +1,6 @@
 -- The state of a tracker that is numbered anew is sound, and the same is asked in it.
 use Rattle.std.proofs.Common.{◌≡◌, ℕ, ◌≤◌, true, List, [], ◌∷◌, length, map, None, refl, sym, ap, ◌∙◌, subst, arith}
+use Rattle.std.specs.Prelude.{All}
 use Rattle.std.specs.List.{AllByRecursion}
 use Rattle.std.specs.List.Sorted.{IsStrictlySortedBy}
 use Rattle.std.specs.Ordering.{nat_cmp}
@@ -17,7 +18,9 @@ use Rattle.mesh_base.proofs.ListedPairs.{all_mapped, all_weaker}
 use Rattle.mesh_plain.specs.Shape.{shape_fault}
 use Rattle.mesh_plain.proofs.Faults.{no_fault}
 use Rattle.pair_scan.proofs.Paths.{ids_sorted}
-use Rattle.obj_text.specs.Written.{rank, points_in_order, faces_by_rank}
+use Rattle.mesh_base.specs.Given.{mesh_under}
+use Rattle.mesh_rows.specs.Making.{with_solids}
+use Rattle.obj_text.specs.Written.{rank, rank_among, points_in_order, faces_by_rank}
 use Rattle.obj_text.specs.Laws.{renumbered}
 use Rattle.obj_text.proofs.Renumbered.{closed_again, clear_again}
 use Rattle.obj_text.proofs.RanksInOrder.{keeps_order_lem}
@@ -31,7 +34,7 @@ use Rattle.track_engine.proofs.Keeping.{ids_in, asked_still}
 use Rattle.track_engine.proofs.ShapeAgain.{sound_again, rank_lives}
 use Rattle.track_engine.proofs.Still.{SolidsAreStill, rest_of_still}
 use Rattle.track_held.specs.Renumbered.{ranked_shift, dense_shifts, dense_mesh, dense_state}
-use Rattle.track_held.proofs.DenseSolids.{points-with_solids, sound-with_solids, closed-with_solids, clear-with_solids, keys_live, solids, solids_live, solid_was}
+use Rattle.track_held.proofs.DenseSolids.{points-with_solids, sound-with_solids, closed-with_solids, clear-with_solids, all_of, keys_live, solids, solids_live, solid_was}
 
 -- ---- the mesh
 
@@ -59,6 +62,25 @@ dense_valid m valid =
       closed = closed-with_solids (renumbered Large m) ranks (closed_again Large m valid.sound valid.closed);
       clear = clear-with_solids (renumbered Large m) ranks (clear_again Large m valid.sound valid.clear);
     }
+
+module _ (m : Mesh) (sound : IsSound m) (made : Mesh) (points : List Point) (faces : List (List ℕ)) (ids vertices ranks : List ℕ)
+  (is_made : made ≡ mesh_under Large points faces) (of_points : points ≡ points_in_order m) (of_faces : faces ≡ faces_by_rank m) (of_ids : ids ≡ finite.keys m.points) (of_solids : vertices ≡ solids m) (of_ranks : ranks ≡ map (rank_among ids) vertices) where
+  made_is : made ≡ renumbered Large m
+  made_is = is_made ∙ ap (λ (ps : List Point). mesh_under Large ps faces) of_points ∙ ap (λ (fs : List (List ℕ)). mesh_under Large (points_in_order m) fs) of_faces
+
+  ranks_are : ranks ≡ map (rank m) (solids m)
+  ranks_are = of_ranks ∙ ap (λ (l : List ℕ). map (rank_among l) vertices) of_ids ∙ ap (λ (l : List ℕ). map (rank m) l) of_solids
+
+  -- the vertices that are to be solid live in the mesh that is made
+  pub marks_live : All (IsLiveVertex made) ranks
+  marks_live =
+      let P : Mesh → Type 0 = λ n. All (IsLiveVertex n) ranks in
+      let Q : List ℕ → Type 0 = λ l. All (IsLiveVertex (renumbered Large m)) l in
+      subst P (sym made_is) (subst Q (sym ranks_are) (all_of (IsLiveVertex (renumbered Large m)) (map (rank m) (solids m)) (ranks_live m sound)))
+
+  -- and with them it is the mesh that is numbered anew
+  pub marked_is : (marked : Mesh) → marked ≡ with_solids made ranks → marked ≡ dense_mesh m
+  marked_is marked is = is ∙ ap (λ (n : Mesh). with_solids n ranks) made_is ∙ ap (λ (l : List ℕ). with_solids (renumbered Large m) l) ranks_are
 
 -- ---- what is asked
 
@@ -96,6 +118,14 @@ module _ (m : Mesh) (asked : Shifts) where
   -- each vertex of the mesh is named
   dense_whole : asked_in (dense_mesh m) dense ≡ dense
   dense_whole = whole_is (dense_mesh m) dense dense_named dense_still
+
+-- the shifts that are made
+module _ (m : Mesh) (asked : Shifts) (ids : List ℕ) (given ranked : Shifts) (of_ids : ids ≡ finite.keys m.points) (of_given : given ≡ asked_in m asked) (of_ranked : ranked ≡ map (ranked_shift ids) given) where
+  pub ranked_are : ranked ≡ dense_shifts m (asked_in m asked)
+  ranked_are = of_ranked ∙ ap (λ (l : List ℕ). map (ranked_shift l) given) of_ids ∙ ap (λ (l : Shifts). map (ranked_shift (finite.keys m.points)) l) of_given
+
+  pub ranked_rise : IsStrictlySortedBy nat_cmp (map (λ s. s.v) ranked)
+  ranked_rise = let P : Shifts → Type 0 = λ l. IsStrictlySortedBy nat_cmp (map (λ s. s.v) l) in subst P (sym ranked_are) (dense_rises m asked)
 
 -- ---- the state
 
