@@ -6,7 +6,9 @@ ghost use Rattle.grid_base.specs.declared.TheConstants.{VERTICES_MAX};
 ghost use Rattle.obj_text.specs.Written.{rank_among, points_in_order, faces_by_rank};
 
 use grid_base::NoMemory;
-use mesh_base::{FaceId, MeshLists, Points, Surface, Triangles, VertexId, live_faces, live_vertices};
+use mesh_base::{
+    FaceId, MeshLists, Points, Surface, Triangles, VertexId, live_faces, live_vertices,
+};
 use std::alloc::Global;
 
 // Whether so many of the rising ids are up to `v`, and no more.

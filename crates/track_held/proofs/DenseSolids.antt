@@ -87,9 +87,9 @@ module _ (m : Mesh) where
 
   solid_ranks : AllByRecursion IsSolidRank (map (rank m) solids)
   solid_ranks = all_mapped IsSolidRank (rank m) solids (
-    all_filtered (λ v. IsSolidRank (rank m v)) (is_solid m) (finite.keys m.points)
-    (all_weaker (IsLiveVertex m) (λ v. is_solid m v ≡ true → IsSolidRank (rank m v)) (finite.keys m.points) (λ v live. λ solid. record { v = v; live = live; solid = solid; is = refl }) keys_live)
-  )
+      all_filtered (λ v. IsSolidRank (rank m v)) (is_solid m) (finite.keys m.points)
+      (all_weaker (IsLiveVertex m) (λ v. is_solid m v ≡ true → IsSolidRank (rank m v)) (finite.keys m.points) (λ v live. λ solid. record { v = v; live = live; solid = solid; is = refl }) keys_live)
+      )
 
   -- a live vertex is solid, if its rank is then
   pub solid_was : (scale : Scale) (v : ℕ) → IsLiveVertex m v → is_solid (with_solids (renumbered scale m) (map (rank m) solids)) (rank m v) ≡ true → is_solid m v ≡ true

@@ -64,7 +64,7 @@ dense_valid m valid =
     }
 
 module _ (m : Mesh) (sound : IsSound m) (made : Mesh) (points : List Point) (faces : List (List ℕ)) (ids vertices ranks : List ℕ)
-  (is_made : made ≡ mesh_under Large points faces) (of_points : points ≡ points_in_order m) (of_faces : faces ≡ faces_by_rank m) (of_ids : ids ≡ finite.keys m.points) (of_solids : vertices ≡ solids m) (of_ranks : ranks ≡ map (rank_among ids) vertices) where
+    (is_made : made ≡ mesh_under Large points faces) (of_points : points ≡ points_in_order m) (of_faces : faces ≡ faces_by_rank m) (of_ids : ids ≡ finite.keys m.points) (of_solids : vertices ≡ solids m) (of_ranks : ranks ≡ map (rank_among ids) vertices) where
   made_is : made ≡ renumbered Large m
   made_is = is_made ∙ ap (λ (ps : List Point). mesh_under Large ps faces) of_points ∙ ap (λ (fs : List (List ℕ)). mesh_under Large (points_in_order m) fs) of_faces
 
