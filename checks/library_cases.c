@@ -525,6 +525,51 @@ static void groups_taken_back(void)
     topo_free(&t);
 }
 
+/* the place of a vertex among these, from 1 */
+static uint32_t place_of(const struct topo_vertex *rows, size_t count, uint32_t id)
+{
+    size_t k = 0;
+    while (k < count && rows[k].id != id)
+        ++k;
+    return (uint32_t)k + 1;
+}
+
+static void numbered_anew(void)
+{
+    struct topo_vertex was[8], row[8];
+    struct topo_face had[16], face[16];
+    uint32_t solids[8];
+    size_t count, faces, k;
+    is("no tracker", topo_renumber(&t), TOPO_EMPTY);
+    is("a tetrahedron", topo_new(four, 4, sides, 4, &t, &fault), TOPO_DONE);
+    is("three splits", (uint32_t)(done(TOPO_SPLIT, 1, 2, 0, 0, 5, 0, 20, 0, 0) && done(TOPO_SPLIT, 3, 4, 0, 0, 6, 0, 0, 20, 20) && done(TOPO_SPLIT, 2, 3, 0, 0, 7, 0, 20, 20, 0)), 1);
+    is("and a collapse, so that there is no vertex 5", (uint32_t)done(TOPO_COLLAPSED, 1, 5, 0, 0, 1, 0, 10, 0, 0), 1);
+    is("vertex 7 is solid", topo_solid(&t, 7, &fault), TOPO_DONE);
+    is("vertex 6 is to move", topo_shift(&t, 6, 0, 0, 1, &fault), TOPO_DONE);
+    is("a group", topo_open(&t, &fault), TOPO_DONE);
+    is("has to be closed first", topo_renumber(&t), TOPO_GROUPED);
+    is("as it is", topo_close(&t, &kept, &fault), TOPO_DONE);
+    is("its vertices", topo_points(&t, was, 8, &count), TOPO_DONE);
+    is("its faces", topo_faces(&t, had, 16, &faces), TOPO_DONE);
+    is("are six and eight, of ids up to 7 and more", (uint32_t)(count == 6 && faces == 8 && was[5].id == 7 && had[7].id > 8), 1);
+    is("they are numbered anew", topo_renumber(&t), TOPO_DONE);
+    is("its vertices", topo_points(&t, row, 8, &size), TOPO_DONE);
+    is("are as many", (uint32_t)(size == count), 1);
+    for (k = 0; k < count; ++k)
+        is("in the same order and places", (uint32_t)(row[k].id == k + 1 && row[k].x == was[k].x && row[k].y == was[k].y && row[k].z == was[k].z), 1);
+    is("its faces", topo_faces(&t, face, 16, &size), TOPO_DONE);
+    is("are as many", (uint32_t)(size == faces), 1);
+    for (k = 0; k < faces; ++k)
+        is("in the same order, of the same corners", (uint32_t)(face[k].id == k + 1 && face[k].a == place_of(was, count, had[k].a) && face[k].b == place_of(was, count, had[k].b) && face[k].c == place_of(was, count, had[k].c)), 1);
+    is("its solid vertex", topo_solids(&t, solids, 8, &size), TOPO_DONE);
+    is("is the last", (uint32_t)(size == 1 && solids[0] == 6), 1);
+    is("its numbers", topo_counts(&t, &counted), TOPO_DONE);
+    is("go on behind them, and no line is told", (uint32_t)(counted.next_vertex == 7 && counted.next_face == 9 && counted.lines == 0 && counted.steps == 0), 1);
+    is("a step", topo_step(&t, &way, &fault), TOPO_DONE);
+    is("moves the vertex that was to move", (uint32_t)tells("step 1\nmove 5 0 0 1\nmoved whole\n"), 1);
+    topo_free(&t);
+}
+
 static void stars(void)
 {
     struct topo_face row[4];
@@ -695,6 +740,7 @@ int main(void)
     edits_that_are_none();
     edits_at_the_limit();
     groups_taken_back();
+    numbered_anew();
     stars();
     components();
     joined_and_large();

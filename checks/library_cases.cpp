@@ -136,6 +136,10 @@ void edits()
     is("the first refused ends a list", surface.edit_each({{TOPO_FLIPPED, 1, 77, 0, 0}, {TOPO_SPLIT, 1, 4, 0, 0}}).size() == 1);
     is("it is taken back", surface.undo() == TOPO_TAKEN_BACK);
     is("and its vertex is gone", surface.star(7).empty() && surface.beside(1, 7).empty() && surface.counts().next_vertex == 7);
+    surface.open();
+    is("in a group nothing is numbered anew", ends([&] { surface.renumber(); }, TOPO_GROUPED));
+    surface.undo(), surface.collapse(2.1), surface.renumber();
+    is("ids are those of the places then", surface.vertices().back().id == surface.vertices().size() && surface.counts().lines == 0);
 }
 
 void tables()

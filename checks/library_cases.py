@@ -148,6 +148,14 @@ def edits():
         says("a number beyond 32 bits", ValueError, f"edit 1 is {2**32 + 2}", lambda: surface.edit_each([(2**32 + 2, 1, 2, 0, 0)]))
         says("a kind that is none", topo.TopoError, "topo_edit_each|beyond its limit", lambda: surface.edit_each([(9, 1, 2, 0, 0)]))
         log = surface.log()
+        surface.open()
+        says("a group is open", topo.TopoError, "topo_renumber|a group is open", surface.renumber)
+        surface.undo()
+        surface.collapse(2.1)
+        surface.renumber()
+        count = surface.counts()
+        holds("numbered anew", [*surface.vertices()] == [*range(1, count["vertices"] + 1)] and [*surface.faces()] == [*range(1, count["faces"] + 1)])
+        holds("with no line", surface.log() == "" and count["next_vertex"] == count["vertices"] + 1 and count["next_face"] == count["faces"] + 1)
         holds("its log", log.startswith("split 1 2 5 20 0 0\nno pinch 4 onefan\n") and log.endswith("close undone\nno pinch 4 onefan\n") and surface.log() == "")
 
 

@@ -94,7 +94,10 @@ static uint32_t by_ids(struct topo *t, struct topo_fault *fault)
     next(t, STOPS);
     if ((code = topo_undo(t, &became)) != TOPO_DONE)
         return became == 77 ? code : 99;
-    return became == TOPO_TAKEN_BACK ? code : 99;
+    if (became != TOPO_TAKEN_BACK)
+        return 99;
+    next(t, STAYS);
+    return topo_renumber(t);
 }
 
 /* makes a tracker, another in its place, and works with that twice over, up to the first call that is not done */

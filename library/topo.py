@@ -28,7 +28,7 @@ except ImportError:
     numpy = None
 
 u32, i32, size_t, ref = ctypes.c_uint32, ctypes.c_int32, ctypes.c_size_t, ctypes.byref
-DONE, NO_MEMORY, REFUSED, RANGE, EMPTY, STOPPED, SPENT = range(7)
+DONE, NO_MEMORY, REFUSED, RANGE, EMPTY, STOPPED, SPENT, GROUPED = range(8)
 WAYS = ("whole", "impulse", "zones", "halved", "zero")
 GROUPS = ("none", "kept", "taken back")
 EVENTS = ("", "moved", "split", "flipped", "collapsed", "zipped", "pinched", "solid", "opened", "kept", "undone")
@@ -44,6 +44,7 @@ CODES = {
     EMPTY: "there is no tracker, or it was freed",
     STOPPED: "an earlier directive had no memory: the tracker can be read and freed, no more",
     SPENT: "2^32 - 1 steps were taken",
+    GROUPED: "a group is open",
 }
 REASONS = {
     1: "no live vertex has the id {a}",
@@ -92,7 +93,7 @@ Cells = struct("Cells", x_y_z=i32, side_nx_ny_nz=u32)
 
 CALLS = ("topo_new topo_new_numbered topo_free topo_shift_each topo_shift_all topo_set topo_step topo_split topo_collapse topo_flip topo_zip topo_pinch topo_fit topo_fit_by "
          "topo_edit_each topo_close_fold topo_solid topo_open topo_close topo_undo topo_counts topo_points topo_faces topo_star topo_beside topo_components topo_solids "
-         "topo_events topo_log topo_forget topo_keep topo_version topo_calls").split()
+         "topo_events topo_log topo_forget topo_renumber topo_keep topo_version topo_calls").split()
 
 Component = collections.namedtuple("Component", "vertex faces euler volume")
 Answer = collections.namedtuple("Answer", "why a b c at")
@@ -485,6 +486,10 @@ class Tracker:
 
     def forget(self):
         self.call("topo_forget")
+
+    def renumber(self):
+        """Numbers the live vertices and faces anew, from 1, in their order; the log is forgotten. Refused where a group is open."""
+        self.call("topo_renumber")
 
     def keep(self, lines):
         """Keeps the lines that are told from here on, or none: then there is no log, and there are no events."""

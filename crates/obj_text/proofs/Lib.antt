@@ -3,8 +3,10 @@ pub mod Fans
 pub mod Ranks
 pub mod LinesOfItems
 pub mod Lookups
+pub mod InOrder
 pub mod RankBounds
 pub mod Again
 pub mod Renumbered
+pub mod RanksInOrder
 pub mod ListsAgain
 pub mod WholeFaces

@@ -92,7 +92,7 @@ module _ {X : Type 0} where
         | inr apart ↦ above_all k v es parts.1 (live_behind v e es (λ is. false≢true (sym apart ∙ eq-eqb v e.0 is)) live)
       ]
 
-  none_up_to : (v : ℕ) (es : List (ℕ × X)) → T (below_all nat_cmp v es) → keys_up_to es v ≡ 0
+  pub none_up_to : (v : ℕ) (es : List (ℕ × X)) → T (below_all nat_cmp v es) → keys_up_to es v ≡ 0
   none_up_to v [] h = refl
   none_up_to v (e ∷ es) h =
       let parts = both_of _ _ h in

@@ -10,7 +10,7 @@ use Rattle.mesh_base.specs.Placements.{IsClearMesh}
 use Rattle.mesh_base.specs.declared.limits.Scale.{Scale}
 use Rattle.mesh_base.specs.Given.{mesh_under}
 use Rattle.obj_text.specs.Obj.{lists_of}
-use Rattle.obj_text.specs.Written.{ranks, mesh_text, ranked_lists}
+use Rattle.obj_text.specs.Written.{rank, mesh_text, ranked_lists, points_in_order, faces_by_rank}
 
 -- on a grid of as many decimals, the text gives the live points and the
 -- live faces in order, corners by rank
@@ -21,9 +21,7 @@ WrittenIsRead = (m : Mesh) (decimals : ℕ) → IsSound m → decimals ≤ DECIM
 -- the live vertices and the live faces numbered from 1 in order, corners by rank, with the limits
 -- of a scale
 abbrev pub renumbered : Scale → Mesh → Mesh
-renumbered scale m =
-    mesh_under scale (map (λ e. e.1) (finite.entries m.points))
-    (map (λ e. ranks m e.1) (finite.entries m.faces))
+renumbered scale m = mesh_under scale (points_in_order m) (faces_by_rank m)
 
 -- lists that the text gives make this mesh
 abbrev pub ListsGiveRenumbered : Type 0
@@ -41,3 +39,8 @@ StaysClosed = (scale : Scale) (m : Mesh) → IsSound m → IsClosed m → IsClos
 abbrev pub StaysClear : Type 0
 StaysClear = (scale : Scale) (m : Mesh) → IsSound m → IsClearMesh m →
     IsClearMesh (renumbered scale m)
+
+-- the vertices keep their order: each gets its rank as its id
+abbrev pub KeepsOrder : Type 0
+KeepsOrder = (scale : Scale) (m : Mesh) →
+    finite.keys (renumbered scale m).points ≡ map (rank m) (finite.keys m.points)

@@ -22,6 +22,14 @@ rank m v = rank_among (finite.keys m.points) v
 abbrev pub ranks : Mesh → Corners → List ℕ
 ranks m c = rank m c.first ∷ rank m c.second ∷ rank m c.third ∷ []
 
+-- where the live vertices stand, by rising id
+abbrev pub points_in_order : Mesh → List Point
+points_in_order m = map (λ e. e.1) (finite.entries m.points)
+
+-- the live faces, by rising id, each by the ranks of its corners
+abbrev pub faces_by_rank : Mesh → List (List ℕ)
+faces_by_rank m = map (λ e. ranks m e.1) (finite.entries m.faces)
+
 -- f and the ranks of the corners among the ids
 abbrev pub ranked_line : List ℕ → List ℕ → List ℕ
 ranked_line ids corners = line_of_words (codes "f" ∷ map decimal (map (rank_among ids) corners))
@@ -53,5 +61,5 @@ mesh_text decimals m = vertices_text decimals m ++ faces_text m
 abbrev pub ranked_lists : Mesh → Lists
 ranked_lists m = record {
   points = map (λ e. position_of e.1) (finite.entries m.points);
-  faces = map (λ e. ranks m e.1) (finite.entries m.faces);
+  faces = faces_by_rank m;
 }

@@ -1,10 +1,11 @@
-ghost use Rattle.std.specs.Prelude.{◌≡◌, ◌≤◌, nat_le, IsTrue, IfOk};
+ghost use Rattle.std.specs.Prelude.{◌≡◌, ◌≤◌, IfOk};
 ghost use Rattle.std.specs.List.Sorted.{IsNonDecreasing};
 ghost use Rattle.std.specs.FinMap as finite;
 ghost use Rattle.grid_base.specs.declared.TheConstants.{DECIMALS_MAX};
 ghost use Rattle.line_text.specs.WrittenLines.{Appends};
-ghost use Rattle.obj_text.specs.Written.{rank_among, ranked_line, vertex_line, vertices_text, faces_text, mesh_text};
+ghost use Rattle.obj_text.specs.Written.{ranked_line, vertex_line, vertices_text, faces_text, mesh_text};
 
+use crate::ranking::rank;
 use grid_base::{NoMemory, Point};
 use line_text::{Field, put_coordinate, put_line};
 use mesh_base::{FaceId, Surface, VertexId, live_faces, live_vertices};
@@ -20,41 +21,6 @@ pub(crate) fn put_vertex(out: &mut Vec<u8>, p: Point, decimals: u8) -> Result<()
     put_coordinate(out, p.y, decimals, b' ')?;
     put_coordinate(out, p.z, decimals, b'\n')?;
     Ok(())
-}
-
-// Whether so many of the rising ids are up to `v`, and no more.
-fn are_so_many(ids: &[VertexId], v: VertexId, count: usize) -> bool
-    requires rising { IsNonDecreasing ids.now }
-    ensures { IsTrue result → rank_among ids.now v ≡ count }
-{
-    if count == 0 || count > ids.len() {
-        return false;
-    }
-    let last = ids[count - 1];
-    if last.0 > v.0 {
-        return false;
-    }
-    if count == ids.len() {
-        return true;
-    }
-    let next = ids[count];
-    v.0 < next.0
-}
-
-// How many of the rising ids there are up to `v`: where they are 1, 2 and so on, `v` itself.
-fn rank(ids: &[VertexId], v: VertexId) -> u64
-    requires rising { IsNonDecreasing ids.now }
-    ensures { result ≡ rank_among ids.now v }
-{
-    let last = v.0;
-    if are_so_many(ids, v, last as usize) {
-        return u64::from(last);
-    }
-    ids.partition_point(
-        |u: &VertexId| -> bool
-            ensures { result ≡ nat_le u.now last }
-        { u.0 <= last },
-    ) as u64
 }
 
 // Appends the line of a face with these corners.

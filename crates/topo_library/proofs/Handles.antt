@@ -12,7 +12,7 @@ use Rattle.topo_library.specs.declared.fault.TopoFault.{TopoFault}
 use Rattle.topo_library.specs.declared.telling.TopoEdits.{TopoEdits}
 use Rattle.topo_library.specs.declared.tracker.Tracker.{Tracker}
 use Rattle.step_choose.specs.declared.Settings.{Settings}
-use Rattle.topo_library.specs.Codes.{tracked, HasWritten, HandleHasWritten, HasEdited, HandleHasEdited, HasDone, HandleHasDone, HasTold, HandleHasTold, HasSet, HandleHasSet, HasFitted, HandleHasFitted, HasForgotten, HandleHasForgotten, HasKept, HandleHasKeptBy, HasShiftedEach, HandleHasShiftedEach, HasTakenLog, HandleHasTakenLog}
+use Rattle.topo_library.specs.Codes.{tracked, HasWritten, HandleHasWritten, HasEdited, HandleHasEdited, HasDone, HandleHasDone, HasTold, HandleHasTold, HasSet, HandleHasSet, HasRenumbered, HandleHasRenumbered, HasFitted, HandleHasFitted, HasForgotten, HandleHasForgotten, HasKept, HandleHasKeptBy, HasShiftedEach, HandleHasShiftedEach, HasTakenLog, HandleHasTakenLog}
 
 module _ (old new : Option Tracker) (s t : Tracker) (held : old ≡ Some s) (holds : new ≡ Some t) where
   pub answers : (what : Directive) (before after : TopoFault) (code : ℕ) → HasDone what s t before after code → HandleHasDone what old new before after code
@@ -26,6 +26,9 @@ module _ (old new : Option Tracker) (s t : Tracker) (held : old ≡ Some s) (hol
 
   pub sets : (set : Settings) (code : ℕ) → HasSet set s t code → HandleHasSet set old new code
   sets set code h = let P : Option Tracker → Type 0 = λ o. HandleHasSet set o new code in subst P (sym held) (t, holds, h)
+
+  pub renumbers : (code : ℕ) → HasRenumbered s t code → HandleHasRenumbered old new code
+  renumbers code h = let P : Option Tracker → Type 0 = λ o. HandleHasRenumbered o new code in subst P (sym held) (t, holds, h)
 
   pub fits : (may_size : Point → Band → Type 0) (before after : TopoEdits) (code : ℕ) → HasFitted may_size s t before after code → HandleHasFitted may_size old new before after code
   fits may_size before after code h = let P : Option Tracker → Type 0 = λ o. HandleHasFitted may_size o new before after code in subst P (sym held) (t, holds, h)

@@ -1,6 +1,6 @@
 -- What the codes say of the calls.
 use Rattle.std.specs.Prelude.{◌≡◌, ◌≢◌, ◌≤◌, ◌<◌, ◌↔◌, ◌⊎◌, ◌==◌, ℕ, Bool, true, Option, Some, None, Ok, Err}
-use Rattle.std.specs.Prelude.{List, [], ◌∷◌, ◌++◌, length, drop, map}
+use Rattle.std.specs.Prelude.{List, [], ◌∷◌, ◌++◌, length, drop, map, IsTrue}
 use Rattle.std.specs.FinMap as finite
 use Rattle.grid_base.specs.declared.TheConstants.{DEPTH_MAX, HALVINGS_MAX, VERTICES_MAX, FACES_MAX}
 use Rattle.grid_base.specs.declared.Point.{Point}
@@ -22,7 +22,7 @@ use Rattle.step_choose.specs.declared.TheConstants.{PASSES_MAX}
 use Rattle.step_choose.specs.declared.Settings.{Settings}
 use Rattle.step_text.specs.declared.Directive.{Directive}
 use Rattle.track_engine.specs.Answers.{Nothing}
-use Rattle.track_engine.specs.State.{State, unsaved}
+use Rattle.track_engine.specs.State.{State, unsaved, is_open}
 use Rattle.track_engine.specs.Engines.{state_in}
 use Rattle.track_engine.specs.Effects.{Effect, effect_of, edits_effect, edited_answers}
 use Rattle.track_engine.specs.Invariant.{IsRunInvariant, HasRoom}
@@ -39,6 +39,7 @@ use Rattle.track_held.specs.Editing.{edits_asked, answer_told}
 use Rattle.track_held.specs.Given.{given_mesh, make_fault}
 use Rattle.track_held.specs.Held.{engine_in, keeps_lines, lines_in, log_in, goes_on}
 use Rattle.track_held.specs.Numbered.{numbered_fault}
+use Rattle.track_held.specs.Renumbered.{dense_state}
 use Rattle.topo_library.specs.Faults.{make_place, numbered_place, use_place}
 use Rattle.topo_library.specs.Tellings.{edits_told}
 use Rattle.topo_library.specs.declared.telling.TopoEdits.{TopoEdits}
@@ -253,6 +254,28 @@ pub record HasSet (set : Settings) (s t : Tracker) (code : ℕ) : Type 0 where
 abbrev pub HandleHasSet : Settings → Option Tracker → Option Tracker → ℕ → Type 0
 HandleHasSet set None new code = (code ≡ 4) × (new ≡ None)
 HandleHasSet set (Some s) new code = (t : Tracker) × (new ≡ Some t) × HasSet set s t code
+
+-- ---- numbering anew
+
+-- What a code says of a call that numbers vertices and faces anew.
+pub record HasRenumbered (s t : Tracker) (code : ℕ) : Type 0 where
+  -- 0: the tracker stands in the same state, but for the ids, and has told nothing
+  pub done : code ≡ 0 → (tracked t ≡ dense_state (tracked s)) × (lines_told t ≡ [])
+  -- 5 exactly where the tracker was stopped, and 7 exactly where it goes on and a group is open
+  pub stopped : code ≡ 5 ↔ ¬ GoesOn s
+  pub grouped : code ≡ 7 ↔ (GoesOn s × IsTrue (is_open (tracked s).groups))
+  -- but at 0 nothing is changed
+  pub left : code ≢ 0 → t ≡ s
+  pub keeps_on : keeps t ≡ keeps s
+  pub goes_on : goes_on t.held ≡ goes_on s.held
+  pub kept : GoesOn t → IsRunInvariant (tracked t)
+  -- 1 is want of memory, and no other code comes
+  pub among : (code ≡ 0) ⊎ (code ≡ 1) ⊎ (code ≡ 5) ⊎ (code ≡ 7)
+
+-- the same of a handle: 4 where it holds no tracker
+abbrev pub HandleHasRenumbered : Option Tracker → Option Tracker → ℕ → Type 0
+HandleHasRenumbered None new code = (code ≡ 4) × (new ≡ None)
+HandleHasRenumbered (Some s) new code = (t : Tracker) × (new ≡ Some t) × HasRenumbered s t code
 
 -- ---- shifts
 

@@ -8,7 +8,7 @@ ghost use Rattle.track_engine.specs.Told.{step_told, pass_told};
 ghost use Rattle.track_held.specs.Asking.{AsksNothing};
 ghost use Rattle.track_held.specs.Fitting.{always};
 ghost use Rattle.track_held.specs.Tables.{by_cells};
-ghost use Rattle.topo_library.specs.Codes.{tracked, HandleHasDone, HandleHasTold, HandleHasSet, HandleHasFitted, HandleHasShifted, HandleHasShiftedAll, HasShiftedEach, HandleHasShiftedEach};
+ghost use Rattle.topo_library.specs.Codes.{tracked, HandleHasDone, HandleHasTold, HandleHasSet, HandleHasRenumbered, HandleHasFitted, HandleHasShifted, HandleHasShiftedAll, HasShiftedEach, HandleHasShiftedEach};
 ghost use Rattle.topo_library.specs.Tellings.{way_told, edits_told, closing_of};
 
 use crate::codes::{DONE, EMPTY, RANGE};
@@ -174,6 +174,18 @@ pub(crate) fn set(alloc: Global, topo: &mut Topo, set: Settings) -> u32
         return EMPTY;
     };
     let code = b.set(set);
+    topo.give(b);
+    code
+}
+
+/// Numbers vertices and faces of the tracker of a handle anew.
+pub(crate) fn renumber(alloc: Global, topo: &mut Topo) -> u32
+    ensures { HandleHasRenumbered topo.old.owned.value topo.new.owned.value result }
+{
+    let Some(mut b) = topo.take(alloc) else {
+        return EMPTY;
+    };
+    let code = b.renumber(alloc);
     topo.give(b);
     code
 }

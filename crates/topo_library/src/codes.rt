@@ -14,3 +14,5 @@ pub(crate) const EMPTY: u32 = 4;
 pub(crate) const STOPPED: u32 = 5;
 /// So many steps were taken as may be.
 pub(crate) const SPENT: u32 = 6;
+/// A group is open.
+pub(crate) const GROUPED: u32 = 7;

@@ -28,7 +28,7 @@ ghost use Rattle.track_held.specs.declared.band_table.TableFault.{TableFault};
 ghost use Rattle.topo_library.specs.Faults.{table_place};
 ghost use Rattle.topo_library.specs.Folded.{HandleHasClosedFold};
 ghost use Rattle.topo_library.specs.Components.{told_components};
-ghost use Rattle.topo_library.specs.Codes.{tracked, lines_told, HandleHasDone, HandleHasTold, IsBeyond, AreSettings, HandleHasSet, HandleHasFitted, HandleHasWritten, HandleHasEdited, HandleHasShifted, HandleHasShiftedAll, HandleHasShiftedEach, HasMade, HasMadeNumbered, HandleHasPut, HandleHasForgotten, HandleHasKept, HandleHasTakenLog, HandleHasCounted};
+ghost use Rattle.topo_library.specs.Codes.{tracked, lines_told, HandleHasDone, HandleHasTold, IsBeyond, AreSettings, HandleHasSet, HandleHasRenumbered, HandleHasFitted, HandleHasWritten, HandleHasEdited, HandleHasShifted, HandleHasShiftedAll, HandleHasShiftedEach, HasMade, HasMadeNumbered, HandleHasPut, HandleHasForgotten, HandleHasKept, HandleHasTakenLog, HandleHasCounted};
 ghost use Rattle.topo_library.specs.Tellings.{way_told, edits_told, closing_of, undone_of, settings_at, band_of};
 
 mod alone;
@@ -50,7 +50,8 @@ mod tracker;
 
 use alone::{TopoFive, tell_meets, tell_passes};
 use calling::{
-    advance, close, fit, fit_by, pass_with, set, shift_each, shift_every, shift_one, step,
+    advance, close, fit, fit_by, pass_with, renumber, set, shift_each, shift_every, shift_one,
+    step,
 };
 use codes::{RANGE, REFUSED};
 use components::TopoComponent;
@@ -581,6 +582,15 @@ pub extern "C" fn topo_events(
         topo.old.owned.value topo.new.owned.value into.old into.new size.old size.new result }
 {
     read_events(alloc, topo, into, size)
+}
+
+/// Numbers the live vertices and faces anew, from 1, in their order, as a file of the mesh that is read again numbers them. Solid vertices stay
+/// solid, the same is asked of each, settings and steps stay, and what was told is forgotten. Refused where a group is open.
+#[unsafe(no_mangle)]
+pub extern "C" fn topo_renumber(alloc: Global, topo: &mut Topo) -> u32
+    ensures { HandleHasRenumbered topo.old.owned.value topo.new.owned.value result }
+{
+    renumber(alloc, topo)
 }
 
 /// Keeps the lines that are told from here on, at 1, or none of them, at 0, and then forgets those that were told. A tracker that is made

@@ -4,7 +4,7 @@ ghost use Rattle.mesh_sizing.specs.Sizes.{IsBand};
 ghost use Rattle.step_choose.specs.Settings.{AreWithinLimits};
 ghost use Rattle.step_text.specs.Ranges.{IsInRange};
 
-use crate::codes::{DONE, NO_MEMORY, REFUSED, SPENT, STOPPED};
+use crate::codes::{DONE, GROUPED, NO_MEMORY, REFUSED, SPENT, STOPPED};
 use crate::fault::{TopoFault, use_place};
 use crate::telling::{TopoEdits, TopoWay, closing_number, edits_told, undone_number, way_told};
 use edit_base::{Asked, PassKind};
@@ -29,7 +29,7 @@ impl Tracker {
     ghost use Rattle.track_held.specs.Fitting.{always};
     ghost use Rattle.track_held.specs.Tables.{by_cells};
     ghost use Rattle.track_engine.specs.Effects.{edits_effect, edited_answers, undo_effect};
-    ghost use Rattle.topo_library.specs.Codes.{tracked, HasDone, HasTold, HasSet, HasFitted, HasWritten};
+    ghost use Rattle.topo_library.specs.Codes.{tracked, HasDone, HasTold, HasSet, HasFitted, HasWritten, HasRenumbered};
     ghost use Rattle.topo_library.specs.Tellings.{way_told, edits_told, closing_of, undone_of};
 
     /// Does a directive, and answers how that went.
@@ -218,5 +218,21 @@ impl Tracker {
         }
         self.held.set(set);
         DONE
+    }
+
+    /// Numbers vertices and faces anew, and answers how that went. Nothing is changed where memory is wanting.
+    pub(crate) fn renumber(&mut self, alloc: Global) -> u32
+        ensures { HasRenumbered self.old self.new result }
+    {
+        if !self.held.goes_on() {
+            return STOPPED;
+        }
+        if self.held.has_open_group() {
+            return GROUPED;
+        }
+        match self.held.renumber(alloc) {
+            Ok(()) => DONE,
+            Err(_) => NO_MEMORY,
+        }
     }
 }

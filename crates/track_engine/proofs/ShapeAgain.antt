@@ -26,7 +26,7 @@ use Rattle.mesh_plain.proofs.Faults.{no_fault}
 use Rattle.obj_text.specs.Written.{rank, ranks, ranked_lists}
 use Rattle.obj_text.specs.Laws.{renumbered}
 use Rattle.obj_text.proofs.RankBounds.{rank_is_some}
-use Rattle.obj_text.proofs.Renumbered.{rises_at}
+use Rattle.obj_text.proofs.RanksInOrder.{rank_once}
 use Rattle.mesh_base.proofs.MeshLaws.{few_live_vertices, few_live_faces, few_vertices_of, few_faces_of}
 use Rattle.track_engine.specs.Kept.{FitsScale}
 
@@ -84,25 +84,13 @@ module _ (scale : Scale) (m : Mesh) (sound : IsSound m) where
   abbrev faces : List (List ℕ)
   faces = map (λ e. ranks m e.1) (finite.entries m.faces)
 
-  live_found : (v : ℕ) → IsLiveVertex m v → IsSome (find nat_cmp v (finite.entries m.points))
-  live_found v live = ap is_some (sym (get-entries m.points v)) ∙ live
-
-  rank_once : (u v : ℕ) → IsLiveVertex m u → IsLiveVertex m v → rank m u ≡ rank m v → u ≡ v
-  rank_once u v live-u live-v same = elim (cases_lt u v) [
-    | inl lt ↦ let less = rises_at (finite.entries m.points) u v lt (live_found v live-v) in absurd (omega arith)
-    | inr ge ↦ elim (cases_lt v u) [
-      | inl gt ↦ let less = rises_at (finite.entries m.points) v u gt (live_found u live-u) in absurd (omega arith)
-      | inr le ↦ omega arith
-    ]
-  ]
-
   same_test : (u v : ℕ) → IsLiveVertex m u → IsLiveVertex m v → (rank m u == rank m v) ≡ (u == v)
   same_test u v live-u live-v = elim (cases_Bool (u == v)) [
     | inl same ↦ eq-eqb _ _ (ap (rank m) (eqb-true u v same)) ∙ sym same
-    | inr other ↦ ne_eqb _ _ (λ same. false≢true (sym other ∙ eq-eqb u v (rank_once u v live-u live-v same))) ∙ sym other
+    | inr other ↦ ne_eqb _ _ (λ same. false≢true (sym other ∙ eq-eqb u v (rank_once m u v live-u live-v same))) ∙ sym other
   ]
 
-  rank_lives : (v : ℕ) → IsLiveVertex m v → IsLiveVertex again (rank m v)
+  pub rank_lives : (v : ℕ) → IsLiveVertex m v → IsLiveVertex again (rank m v)
   rank_lives v live =
       let keys = finite.keys m.points in
       let some = rank_is_some m v live in
@@ -150,9 +138,9 @@ module _ (scale : Scale) (m : Mesh) (sound : IsSound m) where
       let k : Corners = r.entry.1 in
       let apart = sound.is_mesh.different_corners r.entry.0 k r.there in
       let different : AreDifferent (ranked k) = record {
-        first_second = λ e. apart.first_second (rank_once k.first k.second live.0 live.1 e);
-        second_third = λ e. apart.second_third (rank_once k.second k.third live.1 live.2 e);
-        third_first = λ e. apart.third_first (rank_once k.third k.first live.2 live.0 e);
+        first_second = λ e. apart.first_second (rank_once m k.first k.second live.0 live.1 e);
+        second_third = λ e. apart.second_third (rank_once m k.second k.third live.1 live.2 e);
+        third_first = λ e. apart.third_first (rank_once m k.third k.first live.2 live.0 e);
       } in
       subst AreDifferent (sym r.corners-are) different
 

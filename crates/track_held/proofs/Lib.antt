@@ -12,3 +12,5 @@ pub mod Crowded
 pub mod FoldRanges
 pub mod Grouped
 pub mod FoldChosen
+pub mod DenseSolids
+pub mod DenseStates

@@ -3,6 +3,7 @@ pub mod Given
 pub mod Held
 pub mod Kept
 pub mod Reading
+pub mod Renumbered
 pub mod Closings
 pub mod Events
 pub mod Fitting

@@ -17,6 +17,7 @@ mod held;
 mod making;
 mod making_numbered;
 mod reading;
+mod renumbering;
 mod telling;
 
 pub use asked::{asking, asking_all};

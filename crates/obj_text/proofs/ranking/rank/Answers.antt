@@ -2,7 +2,7 @@ use Rattle.std.proofs.Common.{ℕ, sym, rules}
 use Rattle.std.specs.Prelude.{nat_le}
 use Rattle.std.proofs.lemmas.List.Sorted.{IsPartitionedBy-leb, IsPartitionPoint-from_clause}
 use Rattle.obj_text.proofs.Ranks.{passing_are}
-use Rattle.obj_text.proofs.writing.rank.Goals as goal
+use Rattle.obj_text.proofs.ranking.rank.Goals as goal
 
 pub returns : goal.returns
 returns c =

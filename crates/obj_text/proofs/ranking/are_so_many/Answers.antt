@@ -2,7 +2,7 @@ use Rattle.std.proofs.Common.{◌≡◌, ◌<◌, ◌≤◌, ◌-◌, get_or, ar
 use Rattle.std.proofs.lemmas.Bool.{ltb-true}
 use Rattle.std.proofs.lemmas.List.{get_or_default}
 use Rattle.obj_text.proofs.Ranks.{so_many}
-use Rattle.obj_text.proofs.writing.are_so_many.Goals as goal
+use Rattle.obj_text.proofs.ranking.are_so_many.Goals as goal
 
 pub returns-then-count-ids-2 : goal.returns-then-count-ids-2
 returns-then-count-ids-2 c =
