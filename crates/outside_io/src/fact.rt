@@ -28,8 +28,8 @@ pub struct Ending {
     pub asks_in_vain: bool,
 }
 
-/// What a run lets those know who watch it, beside the bytes that it writes. Nothing that is written, stored or answered depends on who hears
-/// it.
+/// What a run lets those know who watch it, beside the bytes that it writes. Nothing that is written, stored or answered depends on who
+/// hears it.
 #[derive(Clone, Copy, Debug, PartialEq, Eq)]
 pub enum Fact {
     /// So many lines of a log were taken, of work that writes only at its end.

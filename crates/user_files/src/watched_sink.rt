@@ -65,7 +65,7 @@ impl<'l, 'a, K: Sink, R: Eprint + Clock> WatchedSink<'l, 'a, K, R> {
         }
     }
 
-    // Counts a line that was written, and tells it where a step more has begun, many lines more were written, or nothing was told for long.
+    // Counts a line that was written, and tells it where a step has begun, many lines more were written, or nothing was told for long.
     fn count(&mut self, kind: LineKind)
         ensures { self.new.sink ≡ self.old.sink }
     {
