@@ -584,8 +584,8 @@ pub extern "C" fn topo_events(
     read_events(alloc, topo, into, size)
 }
 
-/// Numbers the live vertices and faces anew, from 1, in their order, as a file of the mesh that is read again numbers them. Solid vertices stay
-/// solid, the same is asked of each, settings and steps stay, and what was told is forgotten. Refused where a group is open.
+/// Numbers the live vertices and faces anew, from 1, in their order, as a file of the mesh that is read again numbers them. Solid vertices
+/// stay solid, the same is asked of each, settings and steps stay, and what was told is forgotten. Refused where a group is open.
 #[unsafe(no_mangle)]
 pub extern "C" fn topo_renumber(alloc: Global, topo: &mut Topo) -> u32
     ensures { HandleHasRenumbered topo.old.owned.value topo.new.owned.value result }

@@ -10,7 +10,6 @@ ghost use Rattle.mesh_rows.specs.Making.{with_solids};
 ghost use Rattle.obj_text.specs.Written.{rank_among};
 ghost use Rattle.track_engine.specs.State.{asked_in, is_open};
 ghost use Rattle.track_engine.specs.Engines.{state_in};
-ghost use Rattle.track_engine.specs.Invariant.{IsRunInvariant};
 ghost use Rattle.track_held.specs.Renumbered.{ranked_shift, dense_shifts, dense_mesh, dense_state};
 
 use crate::held::Held;
