@@ -45,7 +45,7 @@ def log_of(words):
 def help_without_build():
     """What the script says of itself in a folder where nothing is built."""
     with tempfile.TemporaryDirectory() as folder:
-        for name in ("topo", "crates.txt", "crates/topo/src/answering.rt"):
+        for name in ("topo", "crates.txt", "crates/topo/src/command_line.rt"):
             os.makedirs(os.path.dirname(os.path.join(folder, name)), exist_ok=True)
             shutil.copy(os.path.join(ROOT, name), os.path.join(folder, name))
         return subprocess.run([os.path.join(folder, "topo"), "--help"], stdout=subprocess.PIPE, timeout=60).stdout.decode()

@@ -5,9 +5,9 @@ ghost use Rattle.std.specs.FinMap as map;
 ghost use Rattle.cell_grid.specs.Filed.{has};
 ghost use Rattle.box_tree.specs.Overlapping.{overlapping, overlapping_apart};
 
-use crate::building::grow;
-use crate::ordering::places_along_curve;
-use crate::walking::{walk, walk_up_to};
+use crate::construction::grow;
+use crate::curve_order::places_along_curve;
+use crate::traversal::{walk, walk_up_to};
 use crate::{LabelledBox, Node, Question, SmallBox};
 use grid_base::{Extent, NoMemory};
 use std::alloc::Global;

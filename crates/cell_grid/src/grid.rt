@@ -6,8 +6,8 @@ ghost use Rattle.cell_grid.specs.Overlapping.{overlapping, HasEachAt};
 
 use crate::Extent;
 use crate::cells::{Cell, Entry};
-use crate::looking::{keep_met, look_rising};
-use crate::setting::{set, take};
+use crate::items::{set, take};
+use crate::lookup::{keep_met, look_rising};
 use grid_base::NoMemory;
 use std::alloc::Global;
 use std::collections::HashMap;

@@ -3,11 +3,11 @@
 
 mod bounds;
 mod cells;
-mod filing;
+mod entries;
 mod grid;
+mod items;
 pub mod laws;
-mod looking;
-mod setting;
+mod lookup;
 
 pub use grid::Grid;
 pub use grid_base::Extent;

@@ -2,10 +2,10 @@
 //! renamed.
 #![tactic(auto)]
 
+mod additions;
 mod corners;
 mod limits;
-mod making;
 
+pub use additions::{exact_mid, make_face, make_faces, make_vertex};
 pub use corners::{are_equal, corners_at, renamed};
 pub use limits::are_over;
-pub use making::{exact_mid, make_face, make_faces, make_vertex};

@@ -1,7 +1,7 @@
 //! One of the five edits, as it is asked for.
 #![tactic(auto)]
 
-mod editing;
+mod dispatch;
 pub mod laws;
 
-pub use editing::edit;
+pub use dispatch::edit;

@@ -10,7 +10,7 @@ use Rattle.grid_base.specs.Extents.{IsIn, overlaps}
 use Rattle.grid_base.specs.Triples.{Triple}
 use Rattle.mesh_base.specs.Sides.{has_corner}
 use Rattle.mesh_base.specs.Placements.{Motion}
-use Rattle.pair_paths.specs.declared.moving.MovingEdge.{MovingEdge}
+use Rattle.pair_paths.specs.declared.moving_parts.MovingEdge.{MovingEdge}
 use Rattle.pair_paths.specs.Bounds.{HoldsPath, HoldsEdge, HoldsFace}
 use Rattle.pair_paths.specs.Paths.{path_along}
 use Rattle.edit_check.specs.declared.boxed.BoxedFace.{BoxedFace}

@@ -23,7 +23,7 @@ use Rattle.mesh_base.proofs.ListedPairs.{all_mapped, all_weaker, all_filtered}
 use Rattle.edit_base.specs.declared.Move.{Move}
 use Rattle.edit_base.specs.declared.Touch.{Touch}
 use Rattle.edit_base.specs.Scaffold.{move_of, motion_by, joins_contacts, meets_contact_rule}
-use Rattle.pair_paths.specs.declared.moving.MovingFace.{MovingFace}
+use Rattle.pair_paths.specs.declared.moving_parts.MovingFace.{MovingFace}
 use Rattle.pair_paths.specs.Paths.{path_along}
 use Rattle.pair_paths.specs.Moving.{moving_edge, moving_face, live_face, moving_faces}
 use Rattle.pair_paths.specs.Bounds.{HoldsPath, HoldsFace}

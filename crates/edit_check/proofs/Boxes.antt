@@ -15,8 +15,8 @@ use Rattle.grid_decided.specs.Decided.{meets_exactly, meets_exactly-is_exact}
 use Rattle.edit_base.specs.declared.Touch.{Touch}
 use Rattle.edit_base.specs.declared.Touch.TheVariants.{Never, Start, End}
 use Rattle.edit_base.specs.Scaffold.{joins_contacts, meets_contact_rule}
-use Rattle.pair_paths.specs.declared.moving.MovingEdge.{MovingEdge}
-use Rattle.pair_paths.specs.declared.moving.MovingFace.{MovingFace}
+use Rattle.pair_paths.specs.declared.moving_parts.MovingEdge.{MovingEdge}
+use Rattle.pair_paths.specs.declared.moving_parts.MovingFace.{MovingFace}
 use Rattle.pair_paths.specs.Bounds.{HoldsEdge, HoldsFace}
 use Rattle.pair_paths.specs.Pairing.{have_a_vertex_in_common, name_with, pair_with, starts, ends}
 use Rattle.pair_paths.proofs.Apart.{separated, starts_held, ends_held}

@@ -9,8 +9,8 @@ use Rattle.mesh_base.proofs.Tests.{and_first, and_second}
 use Rattle.mesh_base.proofs.Listed.{all_front}
 use Rattle.mesh_base.proofs.ListedPairs.{all_joined}
 use Rattle.mesh_base.specs.Placements.{Motion}
-use Rattle.pair_paths.specs.declared.moving.MovingEdge.{MovingEdge}
-use Rattle.pair_paths.specs.declared.moving.MovingFace.{MovingFace}
+use Rattle.pair_paths.specs.declared.moving_parts.MovingEdge.{MovingEdge}
+use Rattle.pair_paths.specs.declared.moving_parts.MovingFace.{MovingFace}
 use Rattle.edit_check.specs.declared.boxed.BoxedFace.{BoxedFace}
 use Rattle.edit_check.specs.Neighbourhood.{EdgeGoes, FaceGoes}
 use Rattle.edit_check.specs.Sides.{first_side, second_side, third_side, turned, is_run_by_some}

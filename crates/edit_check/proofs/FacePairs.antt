@@ -11,8 +11,8 @@ use Rattle.mesh_base.specs.declared.ids.PairName.{PairName}
 use Rattle.mesh_base.specs.Placements.{Motion}
 use Rattle.mesh_base.specs.Sides.{follows, has_corner}
 use Rattle.mesh_base.proofs.ListedPairs.{all_weaker, all_flat_mapped}
-use Rattle.pair_paths.specs.declared.moving.MovingEdge.{MovingEdge}
-use Rattle.pair_paths.specs.declared.moving.MovingFace.{MovingFace}
+use Rattle.pair_paths.specs.declared.moving_parts.MovingEdge.{MovingEdge}
+use Rattle.pair_paths.specs.declared.moving_parts.MovingFace.{MovingFace}
 use Rattle.pair_paths.specs.Bounds.{HoldsEdge, HoldsFace}
 use Rattle.pair_paths.specs.Moving.{moving_edge, moving_face}
 use Rattle.pair_paths.specs.Pairing.{have_a_vertex_in_common, name_with}

@@ -15,7 +15,7 @@ use Rattle.mesh_base.proofs.Listed.{all_map, all_filter, at_key, at_live}
 use Rattle.edit_base.specs.declared.Move.{Move}
 use Rattle.edit_base.specs.Scaffold.{move_of, motion_by}
 use Rattle.pair_paths.specs.declared.path.Path.{Path}
-use Rattle.pair_paths.specs.declared.moving.MovingFace.{MovingFace}
+use Rattle.pair_paths.specs.declared.moving_parts.MovingFace.{MovingFace}
 use Rattle.pair_paths.specs.Moving.{moving_face}
 use Rattle.pair_paths.specs.Bounds.{HoldsPath, HoldsFace}
 use Rattle.edit_check.specs.Touched.{is_moved}

@@ -5,7 +5,7 @@ use Rattle.std.proofs.lemmas.Bool.Decides.{nat_tests}
 use Rattle.std.specs.List.{fold, AllByRecursion}
 use Rattle.std.specs.Option.{option_or}
 use Rattle.mesh_base.specs.declared.ids.PairName.{PairName}
-use Rattle.pair_paths.specs.declared.moving.MovingEdge.{MovingEdge}
+use Rattle.pair_paths.specs.declared.moving_parts.MovingEdge.{MovingEdge}
 use Rattle.edit_check.specs.Searching.{is_settled, with_edge}
 
 -- the one is the other, or comes after it

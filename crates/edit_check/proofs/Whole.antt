@@ -22,8 +22,8 @@ use Rattle.edit_base.specs.declared.Move.{Move}
 use Rattle.edit_base.specs.declared.Touch.{Touch}
 use Rattle.edit_base.specs.Scaffold.{Scaffold, motion_by, is_as_required, first_failing}
 use Rattle.edit_base.proofs.ListedEdges.{IsOrderedEdge}
-use Rattle.pair_paths.specs.declared.moving.MovingEdge.{MovingEdge}
-use Rattle.pair_paths.specs.declared.moving.MovingFace.{MovingFace}
+use Rattle.pair_paths.specs.declared.moving_parts.MovingEdge.{MovingEdge}
+use Rattle.pair_paths.specs.declared.moving_parts.MovingFace.{MovingFace}
 use Rattle.pair_paths.specs.Moving.{moving_edge, moving_face, moving_faces}
 use Rattle.pair_paths.specs.Bounds.{HoldsFace}
 use Rattle.pair_paths.specs.Pairing.{name_with}

@@ -7,9 +7,9 @@ ghost use Rattle.edit_check.specs.FacePairs.{side_fails, sides_fail, faces_fail}
 ghost use Rattle.edit_check.specs.FacePairs.{fails_with_some, some_touched_fail};
 
 use crate::boxed::BoxedFace;
-use crate::boxing::boxed_edge;
-use crate::failing::{fails, is_side_of_some};
 use crate::neighbourhood::Neighbourhood;
+use crate::pair_test::{fails, is_side_of_some};
+use crate::path_boxes::boxed_edge;
 use crate::sides::{first_side, is_run_by_some, second_side, third_side, turned};
 use pair_paths::MovingEdge;
 

@@ -2,19 +2,19 @@
 #![tactic(auto)]
 
 mod boxed;
-mod boxing;
-mod checking;
 mod face_pairs;
-mod failing;
+mod first_pair;
 pub mod laws;
 mod moves;
 mod nearby;
 mod neighbourhood;
+mod pair_search;
+mod pair_test;
+mod path_boxes;
 mod reach;
-mod searching;
 mod sides;
 mod terms;
 mod touched;
 
-pub use checking::{check, check_still};
 pub use edit_base::{Move, Touch};
+pub use first_pair::{check, check_still};

@@ -6,8 +6,8 @@ ghost use Rattle.edit_check.specs.Boxed.{faces_in};
 ghost use Rattle.edit_check.specs.Nearby.{as_list, faces_among, near_faces};
 
 use crate::boxed::BoxedFace;
-use crate::boxing::boxed_face;
 use crate::moves::Moved;
+use crate::path_boxes::boxed_face;
 use grid_base::{Extent, Items, NoMemory};
 use mesh_base::{Corners, FaceId, Surface};
 use pair_paths::{MovingFace, face_with_paths};

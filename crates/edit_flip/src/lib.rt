@@ -1,8 +1,8 @@
 //! The flip of an edge of a mesh.
 #![tactic(auto)]
 
-mod flipping;
+mod flip_test;
 pub mod laws;
-mod trying;
+mod operation;
 
-pub use flipping::flip;
+pub use operation::flip;

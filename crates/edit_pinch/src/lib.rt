@@ -1,13 +1,13 @@
 //! The pinch of a vertex at which several fans of faces meet.
 #![tactic(auto)]
 
+mod changes;
+mod copy_points;
 pub mod laws;
-mod making;
-mod parting;
-mod pinching;
-mod shifting;
+mod operation;
+mod vertex_fans;
 
-pub use making::apply_pinch;
-pub use parting::{Fan, Fans, fan_count, fans};
-pub use pinching::{pinch, put_pinch};
-pub use shifting::{copies_for, fan_point};
+pub use changes::apply_pinch;
+pub use copy_points::{copies_for, fan_point};
+pub use operation::{pinch, put_pinch};
+pub use vertex_fans::{Fan, Fans, fan_count, fans};

@@ -3,7 +3,7 @@
 
 mod acts;
 pub mod laws;
-mod splitting;
+mod operation;
 
 pub use acts::{apply_split, is_split_over, split_point};
-pub use splitting::split;
+pub use operation::split;

@@ -4,8 +4,8 @@ use Rattle.grid_base.specs.declared.NoMemory.{NoMemory}
 use Rattle.mesh_base.specs.Mesh.{Mesh}
 use Rattle.mesh_base.specs.Kept.{BeginsWith}
 use Rattle.edit_zip.specs.Trying.{KeepsWhereNoneIsTaken}
-use Rattle.edit_zip.specs.declared.trying.Tried.{Tried}
-use Rattle.edit_zip.specs.declared.trying.Tried.TheVariants.{Taken, Failed}
+use Rattle.edit_zip.specs.declared.attempts.Tried.{Tried}
+use Rattle.edit_zip.specs.declared.attempts.Tried.TheVariants.{Taken, Failed}
 
 -- where the kept meshes are those before, that is said of any answer
 pub keeps : (result : Result Tried NoMemory) (new old : List Mesh) → new ≡ old → KeepsWhereNoneIsTaken result new old

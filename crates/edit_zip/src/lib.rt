@@ -1,14 +1,14 @@
 //! The zip of two edges of a mesh: their faces are dropped, and the two openings are joined by a tunnel.
 #![tactic(auto)]
 
+mod attempts;
 mod edges;
 pub mod laws;
-mod making;
+mod new_faces;
+mod operation;
 mod ready;
-mod trying;
 mod tunnel;
 mod turns;
-mod zipping;
 
+pub use operation::zip;
 pub use ready::zip_ready;
-pub use zipping::zip;

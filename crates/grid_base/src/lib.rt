@@ -6,18 +6,18 @@ mod grid;
 pub mod laws;
 mod list;
 mod memory;
-mod moving;
 pub mod narrow;
 mod pair_positions;
+mod point_arithmetic;
 mod vector;
 
 pub use extent::Extent;
 pub use grid::{NO_SHIFT, Point, Shift};
 pub use list::{Items, copy_of};
 pub use memory::NoMemory;
-pub use moving::{floor_mid, halved, moved};
 pub use narrow::orient;
 pub use pair_positions::Positions;
+pub use point_arithmetic::{floor_mid, halved, moved};
 pub use vector::Wide;
 
 /// The greatest size of a point's coordinate.

@@ -6,7 +6,7 @@ mod boxes;
 #[cfg(test)]
 mod cells;
 #[cfg(test)]
-mod meeting;
+mod intersections;
 #[cfg(test)]
 mod motions;
 #[cfg(test)]

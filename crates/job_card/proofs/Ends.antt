@@ -2,7 +2,7 @@
 use Rattle.std.proofs.Common.{◌≡◌, ℕ, List, Result, Ok, Err, sym, ap, ◌∙◌}
 use Rattle.std.specs.Prelude.{MatchResult}
 use Rattle.job_card.specs.declared.card.Card.{Card}
-use Rattle.job_card.specs.declared.reading.CardFault.{CardFault}
+use Rattle.job_card.specs.declared.parser.CardFault.{CardFault}
 use Rattle.job_card.specs.Text.{text_of}
 use Rattle.job_card.specs.Laws.{IsGood, IsFirstBad}
 use Rattle.job_card.proofs.WordLaws.{cards_have_their_text_lem}

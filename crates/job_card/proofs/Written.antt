@@ -3,7 +3,7 @@ use Rattle.std.proofs.Common.{◌≡◌, ℕ, ◌+◌, ◌<◌, ◌≤◌, List,
 use Rattle.std.specs.Prelude.{codes, decimal}
 use Rattle.std.specs.List.{concat, join_with_byte}
 use Rattle.std.proofs.lemmas.List.{append-nil, drop_all, drop_more}
-use Rattle.line_text.specs.declared.putting.Field.{Field}
+use Rattle.line_text.specs.declared.fields.Field.{Field}
 use Rattle.line_text.specs.WrittenLines.{word_of}
 use Rattle.job_card.specs.declared.card.Card.{Card}
 use Rattle.job_card.specs.declared.card.Version.{Version}

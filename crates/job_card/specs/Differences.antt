@@ -3,9 +3,9 @@ use Rattle.std.specs.Prelude.{◌≡◌, ◌≢◌, ℕ, List, length}
 use Rattle.sha2.specs.Sha256.{sha256}
 use Rattle.job_card.specs.declared.card.Card.{Card}
 use Rattle.job_card.specs.declared.card.FileMark.{FileMark}
-use Rattle.job_card.specs.declared.differing.Part.{Part}
-use Rattle.job_card.specs.declared.differing.Part.TheVariants.{Decimals, Mesh, Log}
-use Rattle.job_card.specs.declared.differing.Facts.{Facts}
+use Rattle.job_card.specs.declared.facts.Part.{Part}
+use Rattle.job_card.specs.declared.facts.Part.TheVariants.{Decimals, Mesh, Log}
+use Rattle.job_card.specs.declared.facts.Facts.{Facts}
 
 -- the mark of these bytes: how many there are, and their digest
 pub record Marks (bytes : List ℕ) (m : FileMark) : Type 0 where

@@ -3,15 +3,15 @@
 #![tactic(auto)]
 
 mod card;
-mod differing;
+mod facts;
 pub mod laws;
-mod marking;
-mod reading;
+mod marker;
+mod parser;
 mod words;
-mod writing;
+mod writer;
 
 pub use card::{Card, FileMark, Version};
-pub use differing::{Facts, Part, difference};
-pub use marking::{Marker, mark_of_bytes};
-pub use reading::{CardFault, read_card};
-pub use writing::card_text;
+pub use facts::{Facts, Part, difference};
+pub use marker::{Marker, mark_of_bytes};
+pub use parser::{CardFault, read_card};
+pub use writer::card_text;

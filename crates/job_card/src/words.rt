@@ -8,7 +8,7 @@ ghost use Rattle.job_card.specs.Laws.{IsVersion, IsMark, IsDigest};
 ghost use Rattle.job_card.specs.Text.{version_text, mark_line};
 
 use crate::card::{FileMark, Version};
-use crate::writing::hex_of;
+use crate::writer::hex_of;
 use grid_base::DECIMALS_MAX;
 use hex::decode_to_slice;
 use itoa::Buffer;

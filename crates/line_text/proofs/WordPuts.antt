@@ -1,7 +1,7 @@
 -- A line that is written word by word.
 use Rattle.std.proofs.Common.{◌≡◌, ℕ, ◌+◌, ◌-◌, ◌<◌, ◌≤◌, List, [], ◌∷◌, ◌++◌, length, get_or, drop, map, refl, sym, ap, ◌∙◌, arith, append_assoc}
 use Rattle.std.proofs.lemmas.List.{append-nil, length-take, length-map, length-drop, take-append-le, drop_more, drop_all}
-use Rattle.line_text.specs.declared.putting.Field.{Field}
+use Rattle.line_text.specs.declared.fields.Field.{Field}
 use Rattle.line_text.specs.WrittenLines.{line_of_words, word_of, Keeps}
 
 pub record Put (start : List ℕ) (fields : List Field) (i : ℕ) (text : List ℕ) : Type 0 where

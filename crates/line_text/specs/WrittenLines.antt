@@ -1,8 +1,8 @@
 -- Lines that are written word by word.
 use Rattle.std.specs.Prelude.{◌≡◌, ℕ, List, [], ◌∷◌, ◌++◌, length, take, decimal, Result, OnOk, Vec}
 use Rattle.std.specs.Fmt.{signed_decimal}
-use Rattle.line_text.specs.declared.putting.Field.{Field}
-use Rattle.line_text.specs.declared.putting.Field.TheVariants.{Text, Number, Signed, Wide}
+use Rattle.line_text.specs.declared.fields.Field.{Field}
+use Rattle.line_text.specs.declared.fields.Field.TheVariants.{Text, Number, Signed, Wide}
 
 -- a space after each word, and LF after the last
 abbrev pub line_of_words : List (List ℕ) → List ℕ

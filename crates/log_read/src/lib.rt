@@ -6,9 +6,9 @@ mod edit_values;
 pub mod laws;
 mod lines;
 mod listed;
-mod reading;
+mod parser;
 mod refusals;
 mod values;
 
-pub use reading::read_log;
+pub use parser::read_log;
 pub use values::pair_at;

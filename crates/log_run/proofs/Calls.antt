@@ -18,8 +18,8 @@ use Rattle.step_text.specs.declared.TheConstants.{GROUPS_MAX}
 use Rattle.log_text.specs.declared.LogLine.{LogLine}
 use Rattle.log_text.specs.declared.LogLine.TheVariants as line
 use Rattle.log_replay.specs.Replay.{Replay, closed}
-use Rattle.log_run.specs.declared.standing.StepSoFar.{StepSoFar}
-use Rattle.log_run.specs.declared.standing.Standing.{Standing}
+use Rattle.log_run.specs.declared.replay_state.StepSoFar.{StepSoFar}
+use Rattle.log_run.specs.declared.replay_state.Standing.{Standing}
 use Rattle.log_run.specs.States.{LogState, with_line}
 use Rattle.log_replay.specs.Moves.{MayMove}
 use Rattle.edit_any.specs.Answered.{IsAnswered}

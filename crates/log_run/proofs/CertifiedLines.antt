@@ -22,7 +22,7 @@ use Rattle.edit_proof.specs.Certified.{IsMadeFor, IsFoundFor}
 use Rattle.edit_proof.proofs.Certifying.{verdict_found}
 use Rattle.log_text.specs.declared.LogLine.{LogLine}
 use Rattle.log_text.specs.declared.LogLine.TheVariants as line
-use Rattle.log_run.specs.declared.standing.Standing.{Standing}
+use Rattle.log_run.specs.declared.replay_state.Standing.{Standing}
 use Rattle.log_run.specs.Fits.{FitsFirst, FitsLater}
 use Rattle.log_run.specs.Parts.{StepHolds, HoldsUnless, standing, state_of}
 use Rattle.log_run.specs.Groups.{stack_of}

@@ -21,7 +21,7 @@ use Rattle.mesh_base.specs.Mesh.{Mesh, IsLiveVertex}
 use Rattle.mesh_base.specs.Shifts.{Shifts, NameLive, NameOnce, end_in_box, with_move}
 use Rattle.mesh_base.proofs.InOrder.{keys_sorted}
 use Rattle.mesh_base.proofs.Moves.{both_true, same_ends, still_live}
-use Rattle.log_run.specs.declared.standing.StepSoFar.{StepSoFar}
+use Rattle.log_run.specs.declared.replay_state.StepSoFar.{StepSoFar}
 use Rattle.log_replay.specs.Moves.{is_named, end_of, MayMove, AreMoves}
 use Rattle.log_run.specs.Steps.{still_at, shift_for, shifts_of, names_of}
 use Rattle.log_run.specs.Placing.{CanMove, CanMoveAll}

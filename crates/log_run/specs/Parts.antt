@@ -5,8 +5,8 @@ use Rattle.grid_base.specs.declared.NoMemory.{NoMemory}
 use Rattle.mesh_base.specs.Mesh.{Mesh}
 use Rattle.log_text.specs.declared.LogLine.{LogLine}
 use Rattle.log_replay.specs.Replay.{Replay}
-use Rattle.log_run.specs.declared.standing.StepSoFar.{StepSoFar}
-use Rattle.log_run.specs.declared.standing.Standing.{Standing}
+use Rattle.log_run.specs.declared.replay_state.StepSoFar.{StepSoFar}
+use Rattle.log_run.specs.declared.replay_state.Standing.{Standing}
 use Rattle.log_run.specs.States.{LogState, with_line}
 use Rattle.log_replay.specs.Moves.{AreMoves}
 use Rattle.log_run.specs.Steps.{shifts_of, names_of}

@@ -13,8 +13,8 @@ ghost use Rattle.log_run.specs.Fits.{FitsLater};
 ghost use Rattle.log_run.specs.Motions.{way_of, IsCertified, IsJudged};
 ghost use Rattle.log_run.specs.Parts.{standing, Holds};
 
-use crate::editing::redo;
-use crate::standing::Standing;
+use crate::edits::redo;
+use crate::replay_state::Standing;
 use edit_base::Change;
 use edit_proof::{certify_edit, judge_edit};
 use grid_base::{Items, NoMemory, moved};

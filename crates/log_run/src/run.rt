@@ -7,10 +7,10 @@ ghost use Rattle.log_run.specs.Fits.{LineFits, MayBeTried};
 ghost use Rattle.log_run.specs.Laws.{IsValidState};
 ghost use Rattle.log_run.specs.Motions.{IsCertified, IsJudged};
 
+use crate::lines::take_line;
 use crate::motions::{certify_line, judge_line};
 use crate::open_marks::OpenMarks;
-use crate::standing::{Standing, StepSoFar};
-use crate::taking::take_line;
+use crate::replay_state::{Standing, StepSoFar};
 use grid_base::{Items, NoMemory};
 use log_text::LogLine;
 use mesh_base::Shifts;

@@ -1,13 +1,13 @@
 //! The lines of a log, and the one spelling of each.
 #![tactic(auto)]
 
-mod edit_printing;
+mod edit_printer;
+mod fields;
 mod log_line;
-mod printing;
-mod putting;
+mod printer;
 
 pub use log_line::{Log, LogLine, Refusal};
-pub use printing::{print_line, why_word};
+pub use printer::{print_line, why_word};
 
 /// The version that is written, and by which a log is read whose first line names it.
 pub const VERSION: u8 = 2;

@@ -4,9 +4,9 @@
 mod copies;
 mod kept;
 mod listener;
-mod writing;
+mod writer;
 
 pub use copies::copy_of_line;
 pub use kept::KeptLines;
 pub use listener::Listener;
-pub use writing::write_line;
+pub use writer::write_line;

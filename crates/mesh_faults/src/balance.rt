@@ -11,7 +11,7 @@ ghost use Rattle.mesh_faults.specs.ShapeFaults.{unbalanced_fault, unbalanced_pai
 ghost use Rattle.mesh_faults.specs.Listing.{Adds};
 ghost use Rattle.mesh_faults.specs.Balance.{AreSmall, IsInOrder, differs, Walks, are_vertices, HasUnbalanced};
 
-use crate::listing::{is_vertex, put_if};
+use crate::fault_list::{is_vertex, put_if};
 use grid_base::NoMemory;
 use mesh_base::ShapeFault;
 use std::alloc::Global;

@@ -6,7 +6,7 @@ ghost use Rattle.mesh_faults.specs.ShapeFaults.{all_doubled_from, doubled_by};
 ghost use Rattle.mesh_faults.specs.Listing.{Adds};
 ghost use Rattle.mesh_faults.specs.Doubled.{rank_of, turn_key, HasSmallCorners, IsSeen};
 
-use crate::listing::face_number;
+use crate::fault_list::face_number;
 use grid_base::NoMemory;
 use mesh_base::ShapeFault;
 use std::alloc::Global;

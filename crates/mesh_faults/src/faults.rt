@@ -5,7 +5,7 @@ ghost use Rattle.mesh_faults.specs.ShapeFaults.{shape_faults};
 
 use crate::balance::put_unbalanced;
 use crate::doubled::put_doubled;
-use crate::listing::{put_limits, put_no_vertices, put_repeated};
+use crate::fault_list::{put_limits, put_no_vertices, put_repeated};
 use grid_base::NoMemory;
 use mesh_base::{MeshLists, Scale, ShapeFault};
 use std::alloc::Global;

@@ -3,9 +3,9 @@
 
 mod balance;
 mod doubled;
+mod fault_list;
 mod faults;
-mod listing;
-mod meeting;
+mod intersections;
 
 pub use faults::shape_faults;
-pub use meeting::meeting_pairs;
+pub use intersections::meeting_pairs;

@@ -8,8 +8,8 @@ ghost use Rattle.mesh_base.specs.Sides.{faces_at};
 ghost use Rattle.mesh_journal.specs.Boxed.{Boxes, Holds, AreBoxed};
 
 use crate::boxes::{set_box, unset_box, wider_box};
-use crate::building::{boxes_of, cell_for, longest_side};
 use crate::entries::Entry;
+use crate::face_boxes::{boxes_of, cell_for, longest_side};
 use cell_grid::Grid;
 use grid_base::{Extent, Point, Wide};
 use mesh_base::{FaceId, Surface, VertexId};

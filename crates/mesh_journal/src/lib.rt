@@ -2,8 +2,8 @@
 #![tactic(auto)]
 
 mod boxes;
-mod building;
 mod entries;
+mod face_boxes;
 mod index;
 mod journal;
 mod mesh;

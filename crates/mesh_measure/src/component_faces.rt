@@ -12,7 +12,7 @@ ghost use Rattle.mesh_measure.specs.Shape.{share_vertex};
 ghost use Rattle.mesh_measure.specs.Walk.{LeadsTo};
 
 use crate::edge_number::put_in_order;
-use crate::walking::spread;
+use crate::traversal::spread;
 use edit_acts::corners_at;
 use grid_base::NoMemory;
 use mesh_base::{Corners, FaceId, Ids, Surface, VertexId};

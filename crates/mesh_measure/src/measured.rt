@@ -11,8 +11,8 @@ ghost use Rattle.mesh_measure.specs.Walk.{has_met, Spreads};
 
 use crate::component_faces::{faces_from, vertices_of};
 use crate::edge_number::edges_from;
+use crate::traversal::spread;
 use crate::volume::face_part;
-use crate::walking::spread;
 use edit_acts::corners_at;
 use grid_base::{Items, NoMemory};
 use mesh_base::{FaceId, Surface, VertexId, live_faces};

@@ -1,13 +1,13 @@
 //! Lists of calls of a surface, and what they answer, whichever way the surface is kept.
 #![tactic(auto)]
 
-mod acting;
-mod asking;
+mod acts;
+mod call_sequence;
 mod calls;
-mod playing;
+mod questions;
 mod three;
 
-pub use acting::do_act;
+pub use acts::do_act;
+pub use call_sequence::{play, play_both, play_one};
 pub use calls::{Act, Answer, Answers, Call, Question};
-pub use playing::{play, play_both, play_one};
 pub use three::{ThreeAnswers, play_three};

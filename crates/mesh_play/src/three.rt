@@ -4,8 +4,8 @@ ghost use Rattle.mesh_base.specs.Given.{mesh_under};
 ghost use Rattle.mesh_plain.specs.Shape.{shape_fault};
 ghost use Rattle.mesh_play.specs.Play.{start_of, answers_of, AreLawful};
 
+use crate::call_sequence::play;
 use crate::calls::{Answers, Call};
-use crate::playing::play;
 use grid_base::NoMemory;
 use half_mesh::HalfMesh;
 use mesh_base::{MeshLists, Scale};

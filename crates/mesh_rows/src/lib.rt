@@ -2,11 +2,11 @@
 #![tactic(auto)]
 
 mod balance;
-mod checking;
+mod construction;
+mod face_test;
 mod faults;
-mod making;
 mod rows;
 
+pub use construction::mesh_of_rows;
 pub use faults::{RowsFault, RowsRefusal};
-pub use making::mesh_of_rows;
 pub use rows::{FaceRow, FaceRows, MeshRows, VertexRow, VertexRows};

@@ -4,20 +4,20 @@
 mod accept;
 mod certificate;
 mod certificates;
-mod going;
+mod directions;
 mod halves;
 pub mod laws;
 mod maker;
+mod mesh_paths;
 mod needs;
 mod placed;
 mod scan;
-mod serving;
 mod trees;
 mod valid;
 
 pub use accept::{accepts, verdict_of};
 pub use certificate::{Certificate, Claim, Entries, Entry, Made, Tree, Verdict, Way};
-pub use going::Going;
 pub use maker::{certify, made_of};
+pub use mesh_paths::Going;
 pub use scan::{Names, needing_along};
 pub use valid::is_valid;

@@ -4,8 +4,8 @@ ghost use Rattle.grid_base.specs.Meeting.{AreWithin};
 ghost use Rattle.motion_proof.specs.Trees.{IsFoundTree, AreHalvesOf};
 
 use crate::certificate::{Claim, Tree};
+use crate::directions::first_serving;
 use crate::halves::{first_claim, second_claim};
-use crate::serving::first_serving;
 use grid_base::{DEPTH_MAX, HALF_MAX, NoMemory, Positions};
 use motion_test::{double, middle};
 use std::alloc::Global;

@@ -4,8 +4,8 @@ ghost use Rattle.grid_base.specs.Meeting.{AreWithin};
 ghost use Rattle.motion_proof.specs.Trees.{IsValid, FitsIn, Separates, Serves};
 
 use crate::certificate::{Claim, Tree};
+use crate::directions::serves;
 use crate::halves::{first_claim, second_claim};
-use crate::serving::serves;
 use grid_base::{DEPTH_MAX, DIRECTION_MAX, HALF_MAX, Positions, WIDE_MAX, Wide};
 use motion_test::{double, middle};
 

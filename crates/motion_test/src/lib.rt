@@ -3,8 +3,8 @@
 #![tactic(auto)]
 
 mod axes;
+mod bisection;
 mod direction_list;
-mod halving;
 mod heights;
 mod one_direction;
 mod side;
@@ -18,11 +18,11 @@ ghost use Rattle.grid_base.specs.Separation.{AreSeparated, MoveTogether, Passes,
 ghost use Rattle.motion_test.specs.Pairs.{positions_of};
 
 pub use axes::axis_keeps_apart;
+pub use bisection::{double, middle};
+use bisection::{opens_at, separated_at};
 pub use direction_list::directions;
 use grid_base::{DEPTH_MAX, HALF_MAX, Positions, WIDE_MAX, Wide};
 use grid_meets::meets;
-pub use halving::{double, middle};
-use halving::{opens_at, separated_at};
 pub use one_direction::{brings_together, keeps_apart, takes_apart};
 
 /// An edge and a triangle that move in straight lines. At the start and at the end it has five

@@ -6,8 +6,8 @@ ghost use Rattle.neighbour_list.specs.Clusters.{AreAt};
 ghost use Rattle.neighbour_list.specs.Listed.{IsListOf};
 
 use crate::clusters::clusters_of;
+use crate::construction::near_pairs;
 use crate::listed::ListedPair;
-use crate::making::near_pairs;
 use crate::reference::Reference;
 use grid_base::{HALF_MAX, Items, NoMemory};
 use mesh_base::{Surface, edges_in_order};

@@ -14,7 +14,7 @@ use crate::five_paths::{FivePaths, paths_of_pair};
 use crate::listed::ListedPair;
 use crate::neighbour_list::NeighbourList;
 use crate::pair_test::do_pass;
-use crate::serving::clusters_serve;
+use crate::validity::clusters_serve;
 use grid_base::{DEPTH_MAX, NoMemory, Wide};
 use mesh_base::{ShiftOf, Shifts, Surface};
 use pair_paths::{Frame, KnownPaths, PathOf, Paths, Position, paths_of};

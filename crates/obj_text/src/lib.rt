@@ -3,13 +3,13 @@
 
 mod corner;
 mod law;
-mod lists_writing;
+mod list_writer;
+mod parser;
 mod ranking;
-mod reading;
-mod writing;
+mod writer;
 
 pub use law::{lists_are_read, written_is_read, written_stays_good};
-pub use lists_writing::obj_of_lists;
+pub use list_writer::obj_of_lists;
+pub use parser::read_obj;
 pub use ranking::{lists_by_rank, rank_of};
-pub use reading::read_obj;
-pub use writing::obj_of;
+pub use writer::obj_of;

@@ -20,8 +20,8 @@ use Rattle.line_text.specs.WrittenLines.{line_of_words}
 use Rattle.line_text.proofs.WrittenAgain.{IsSpelled, tests_spell}
 use Rattle.other_text.specs.declared.ply_head.Role.{Role}
 use Rattle.other_text.specs.declared.ply_head.Role.TheVariants.{X, Y, Z}
-use Rattle.other_text.specs.declared.ply_reading.Wanted.{Wanted}
-use Rattle.other_text.specs.declared.ply_reading.Wanted.TheVariants.{Format, Vertices, Properties, Corners, Others, Rows}
+use Rattle.other_text.specs.declared.ply_parser.Wanted.{Wanted}
+use Rattle.other_text.specs.declared.ply_parser.Wanted.TheVariants.{Format, Vertices, Properties, Corners, Others, Rows}
 use Rattle.obj_text.specs.Obj.{Lists}
 use Rattle.other_text.specs.Lines.{lines_add}
 use Rattle.other_text.specs.Ply.{Progress, start, name_of, format_of, element_of, property_of, corners_named, is_end, placed, coordinates_of, point_of, role_adds, property_adds, other_adds, row_adds, wanted_adds, words_add, end_gives, lists_of}

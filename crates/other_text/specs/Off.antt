@@ -7,8 +7,8 @@ use Rattle.line_text.specs.declared.fault.TextFault.{TextFault}
 use Rattle.line_text.specs.Faults.{◌>>=◌}
 use Rattle.line_text.specs.Texts.{numbered_lines}
 use Rattle.obj_text.specs.Obj.{Lists, fan}
-use Rattle.other_text.specs.declared.off_reading.Wanted.{Wanted}
-use Rattle.other_text.specs.declared.off_reading.Wanted.TheVariants.{Name, Counts, Rows}
+use Rattle.other_text.specs.declared.off_parser.Wanted.{Wanted}
+use Rattle.other_text.specs.declared.off_parser.Wanted.TheVariants.{Name, Counts, Rows}
 use Rattle.other_text.specs.Lines.{lines_add}
 use Rattle.other_text.specs.Rows.{count_of, point_of, face_of}
 

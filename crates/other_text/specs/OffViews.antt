@@ -4,7 +4,7 @@ use Rattle.line_text.specs.declared.fault.TextWhy.{TextWhy}
 use Rattle.line_text.specs.declared.fault.ReadFault.{ReadFault}
 use Rattle.line_text.specs.Faults.{Leaves, at_line}
 use Rattle.obj_text.specs.Views.{lists_view}
-use Rattle.other_text.specs.declared.off_reading.Reading.{Reading}
+use Rattle.other_text.specs.declared.off_parser.Reading.{Reading}
 use Rattle.other_text.specs.Off.{Progress}
 
 -- how far the text was read

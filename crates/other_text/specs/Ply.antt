@@ -12,8 +12,8 @@ use Rattle.line_text.specs.Texts.{numbered_lines}
 use Rattle.obj_text.specs.Obj.{Lists, fan}
 use Rattle.other_text.specs.declared.ply_head.Role.{Role}
 use Rattle.other_text.specs.declared.ply_head.Role.TheVariants.{X, Y, Z, Other}
-use Rattle.other_text.specs.declared.ply_reading.Wanted.{Wanted}
-use Rattle.other_text.specs.declared.ply_reading.Wanted.TheVariants.{Name, Format, Vertices, Properties, Corners, Others, Rows}
+use Rattle.other_text.specs.declared.ply_parser.Wanted.{Wanted}
+use Rattle.other_text.specs.declared.ply_parser.Wanted.TheVariants.{Name, Format, Vertices, Properties, Corners, Others, Rows}
 use Rattle.other_text.specs.Lines.{lines_add}
 use Rattle.other_text.specs.Rows.{count_of, face_of}
 

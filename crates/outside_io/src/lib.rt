@@ -2,7 +2,9 @@
 //! Each counts its faults, so that a caller can tell a fault of theirs from one of its own.
 #![tactic(auto)]
 
+mod atomic_store;
 mod beside;
+mod bounded_read;
 mod desk;
 mod fact;
 mod limits;
@@ -13,8 +15,6 @@ mod memory_desk;
 mod memory_sink;
 mod outside;
 mod pipes;
-mod placing;
-mod reading;
 mod real;
 mod shelf;
 mod sink;

@@ -1,5 +1,5 @@
 // How long the files may become that the system lets this run write.
-use crate::reading::open_whole;
+use crate::bounded_read::open_whole;
 use std::alloc::Global;
 use std::rt::Files;
 

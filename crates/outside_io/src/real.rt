@@ -4,9 +4,9 @@ ghost use Rattle.outside_io.specs.Causes.{HasCause, Rose, next_count};
 ghost use Rattle.outside_io.specs.Desk.{HoldsFile, with_file};
 ghost use Rattle.outside_io.specs.Sink.{appended};
 
+use crate::atomic_store::store_whole;
+use crate::bounded_read::{Unread, open_whole};
 use crate::pipes::{Pipe, note_pipe};
-use crate::placing::store_whole;
-use crate::reading::{Unread, open_whole};
 use crate::trouble::{Refusal, Step, Trouble};
 use crate::{Desk, Failed, FetchFault, Sink, StoreFault, TryLock};
 use std::alloc::Global;

@@ -8,7 +8,7 @@ ghost use Rattle.pair_candidates.specs.declared.across.Across.{Across};
 ghost use Rattle.pair_candidates.specs.Slabs.{HasPlace, HasFaceAt, IsSound, IsTreeOf, HasPlaceIf, IsSoundIf, AreFoundIn, AreFoundInIf};
 
 use crate::across::Across;
-use crate::parting::Asked;
+use crate::separation::Asked;
 use crate::slabs::Slabs;
 use box_tree::LabelledBox;
 use grid_base::NoMemory;

@@ -10,7 +10,7 @@ ghost use Rattle.pair_paths.specs.declared.MovingFace.{MovingFace};
 ghost use Rattle.pair_candidates.specs.Slabs.{GoesWith, EdgeGoesWith, FaceGoesWith, AreStill, AreFound};
 
 use crate::across::Across;
-use crate::parting::Asked;
+use crate::separation::Asked;
 use crate::slab_tree::{Growing, SlabTree, find_if, grow};
 use box_tree::{SmallBox, places_along_curve};
 use grid_base::narrow::SPAN_MAX;

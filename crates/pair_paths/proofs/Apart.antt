@@ -9,8 +9,8 @@ use Rattle.grid_base.specs.Extents.{IsIn, overlaps, meet_along}
 use Rattle.grid_base.specs.Meeting.{MeetAt}
 use Rattle.grid_base.specs.Separation.{IsBelow, IsAbove, KeepsApart, AreSeparated, Passes, axes, directions}
 use Rattle.grid_base.specs.Triples.{Triple, minus, dot, opposite}
-use Rattle.pair_paths.specs.declared.moving.MovingEdge.{MovingEdge}
-use Rattle.pair_paths.specs.declared.moving.MovingFace.{MovingFace}
+use Rattle.pair_paths.specs.declared.moving_parts.MovingEdge.{MovingEdge}
+use Rattle.pair_paths.specs.declared.moving_parts.MovingFace.{MovingFace}
 use Rattle.pair_paths.specs.Bounds.{HoldsEdge, HoldsFace, HoldPositions}
 use Rattle.pair_paths.specs.Frames.{seen_from}
 use Rattle.pair_paths.specs.Pairing.{starts, ends}

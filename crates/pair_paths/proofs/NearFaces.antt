@@ -14,8 +14,8 @@ use Rattle.mesh_base.specs.declared.ids.Corners.{Corners}
 use Rattle.mesh_base.specs.Sides.{has_corner}
 use Rattle.mesh_base.proofs.Tests.{both_ways}
 use Rattle.pair_paths.specs.declared.frame.Frame.{Frame}
-use Rattle.pair_paths.specs.declared.moving.MovingEdge.{MovingEdge}
-use Rattle.pair_paths.specs.declared.moving.MovingFace.{MovingFace}
+use Rattle.pair_paths.specs.declared.moving_parts.MovingEdge.{MovingEdge}
+use Rattle.pair_paths.specs.declared.moving_parts.MovingFace.{MovingFace}
 use Rattle.pair_paths.specs.Bounds.{AreBoxes}
 use Rattle.pair_paths.specs.FaceBoxes.{IsFaceBoxIn, labels_of}
 use Rattle.pair_paths.specs.Frames.{HoldsFaceIn}

@@ -6,8 +6,8 @@ use Rattle.grid_base.specs.declared.Extent.{Extent}
 use Rattle.grid_base.specs.declared.Positions.{Positions}
 use Rattle.grid_base.specs.Extents.{IsIn}
 use Rattle.pair_paths.specs.declared.path.Path.{Path}
-use Rattle.pair_paths.specs.declared.moving.MovingEdge.{MovingEdge}
-use Rattle.pair_paths.specs.declared.moving.MovingFace.{MovingFace}
+use Rattle.pair_paths.specs.declared.moving_parts.MovingEdge.{MovingEdge}
+use Rattle.pair_paths.specs.declared.moving_parts.MovingFace.{MovingFace}
 
 -- the box has the start and the end
 pub record HoldsPath (w : Path) (box : Extent) : Type 0 where

@@ -4,7 +4,7 @@ use Rattle.box_tree.specs.declared.LabelledBox.{LabelledBox}
 use Rattle.box_tree.specs.declared.Labels.{Labels}
 use Rattle.mesh_base.specs.declared.ids.Corners.{Corners}
 use Rattle.pair_paths.specs.declared.frame.Frame.{Frame}
-use Rattle.pair_paths.specs.declared.moving.MovingFace.{MovingFace}
+use Rattle.pair_paths.specs.declared.moving_parts.MovingFace.{MovingFace}
 use Rattle.pair_paths.specs.Frames.{HoldsFaceIn}
 
 -- the ids of the corners, as labels

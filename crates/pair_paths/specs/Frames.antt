@@ -4,8 +4,8 @@ use Rattle.grid_base.specs.declared.Positions.{Positions}
 use Rattle.grid_base.specs.Triples.{Triple, minus}
 use Rattle.pair_paths.specs.declared.frame.Frame.{Frame}
 use Rattle.pair_paths.specs.declared.path.Path.{Path}
-use Rattle.pair_paths.specs.declared.moving.MovingEdge.{MovingEdge}
-use Rattle.pair_paths.specs.declared.moving.MovingFace.{MovingFace}
+use Rattle.pair_paths.specs.declared.moving_parts.MovingEdge.{MovingEdge}
+use Rattle.pair_paths.specs.declared.moving_parts.MovingFace.{MovingFace}
 use Rattle.pair_paths.specs.Bounds.{HoldsPath, HoldsEdge, HoldsFace}
 
 -- positions, seen from this one

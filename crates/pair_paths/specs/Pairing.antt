@@ -4,8 +4,8 @@ use Rattle.grid_base.specs.declared.Positions.{Positions}
 use Rattle.mesh_base.specs.declared.ids.PairName.{PairName}
 use Rattle.mesh_base.specs.Sides.{has_corner}
 use Rattle.mesh_base.specs.Pairs.{Pair}
-use Rattle.pair_paths.specs.declared.moving.MovingEdge.{MovingEdge}
-use Rattle.pair_paths.specs.declared.moving.MovingFace.{MovingFace}
+use Rattle.pair_paths.specs.declared.moving_parts.MovingEdge.{MovingEdge}
+use Rattle.pair_paths.specs.declared.moving_parts.MovingFace.{MovingFace}
 
 -- an end of the edge is a corner of the face
 abbrev pub have_a_vertex_in_common : MovingEdge → MovingFace → Bool

@@ -1,7 +1,7 @@
 //! Boxes of what moves: each has the whole way.
 ghost use Rattle.pair_paths.specs.Bounds.{HoldsPath, HoldsEdge, HoldsFace};
 
-use crate::moving::{MovingEdge, MovingFace};
+use crate::moving_parts::{MovingEdge, MovingFace};
 use crate::path::Path;
 use grid_base::Extent;
 

@@ -1,7 +1,7 @@
 //! Frames of reference that move, and boxes in them.
 ghost use Rattle.pair_paths.specs.Frames.{HoldsPathIn, HoldsEdgeIn, HoldsFaceIn};
 
-use crate::moving::{MovingEdge, MovingFace};
+use crate::moving_parts::{MovingEdge, MovingFace};
 use crate::path::Path;
 use crate::position::Position;
 use grid_base::Extent;

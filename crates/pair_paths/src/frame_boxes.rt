@@ -4,7 +4,7 @@ ghost use Rattle.pair_paths.specs.Bounds.{AreBoxesOf};
 ghost use Rattle.pair_paths.specs.FaceBoxes.{IsFaceBoxIn, labels_of};
 
 use crate::frame::{Frame, HasBoundsIn};
-use crate::moving::MovingFace;
+use crate::moving_parts::MovingFace;
 use box_tree::{LabelledBox, Labels, SmallBox};
 use grid_base::NoMemory;
 use mesh_base::Corners;

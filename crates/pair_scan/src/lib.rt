@@ -4,16 +4,16 @@
 
 mod ends;
 mod failing_pairs;
+mod intersections;
 mod lookup;
-mod meeting;
 mod motions;
 mod named;
 mod scan;
 
 pub use ends::end_in_box;
 pub use failing_pairs::{all_pass, failing};
+pub use intersections::{Meets, first_meeting};
 pub use lookup::place_of;
-pub use meeting::{Meets, first_meeting};
 pub use motions::{AtRest, Shifted};
 pub use named::five_of;
 pub use scan::Pairs;

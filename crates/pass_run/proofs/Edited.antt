@@ -21,7 +21,7 @@ use Rattle.outside_io.specs.declared.stop.Stop.TheVariants.{NoMemory}
 use Rattle.outside_io.specs.Sink.{appended, AppendsPart}
 use Rattle.outside_io.proofs.Outsides.{nothing_unremembered}
 use Rattle.pass_run.specs.declared.edits.EditTerms.{EditTerms}
-use Rattle.pass_run.specs.declared.passing.PassCount.{PassCount}
+use Rattle.pass_run.specs.declared.passes.PassCount.{PassCount}
 use Rattle.pass_run.specs.PassLines.{PassRules, line_of, answer_by, lines_from, mesh_after_all, ends, done_in, refused_in}
 use Rattle.pass_run.specs.Results.{Stage, written_at, Keeps, PassResult}
 use Rattle.pass_run.specs.Said.{LeadTo}

@@ -29,7 +29,7 @@ use Rattle.log_text.specs.declared.LogLine.TheVariants as line
 use Rattle.log_replay.specs.Replay.{after, at_mesh}
 use Rattle.log_replay.specs.Safe.{LinesKeepTheMesh}
 use Rattle.outside_io.specs.declared.stop.Stop.{Stop}
-use Rattle.pass_run.specs.declared.passing.PassCount.{PassCount}
+use Rattle.pass_run.specs.declared.passes.PassCount.{PassCount}
 use Rattle.pass_run.specs.Candidates.{length_squared}
 use Rattle.pass_run.specs.PassLines.{PassRules, lines_asked, mesh_asked, ends, lines_from}
 use Rattle.pass_run.specs.Results.{Stage, written_at, PassResult, exact_answer}

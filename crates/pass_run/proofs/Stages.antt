@@ -17,7 +17,7 @@ use Rattle.outside_io.specs.Outside.{StoresNothing}
 use Rattle.outside_io.specs.Sink.{appended, AppendsPart}
 use Rattle.outside_io.proofs.Outsides.{nothing_unremembered, nothing_done, nothing_then, nothing_whole}
 use Rattle.outside_io.proofs.Written.{appended-nil}
-use Rattle.pass_run.specs.declared.passing.PassCount.{PassCount}
+use Rattle.pass_run.specs.declared.passes.PassCount.{PassCount}
 use Rattle.pass_run.specs.PassLines.{is_done, is_refused, ends, done_in, refused_in}
 use Rattle.pass_run.specs.Results.{Stage, written_at, Keeps, PassResult}
 use Rattle.pass_run.specs.Said.{LeadTo, SaidInPart}

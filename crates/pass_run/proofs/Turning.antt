@@ -12,7 +12,7 @@ use Rattle.log_text.specs.declared.LogLine.{LogLine}
 use Rattle.log_replay.specs.Replay.{at_mesh, mesh_after_lines}
 use Rattle.outside_io.specs.declared.stop.Stop.{Stop}
 use Rattle.outside_io.specs.declared.stop.Stop.TheVariants.{NoMemory}
-use Rattle.pass_run.specs.declared.passing.PassCount.{PassCount}
+use Rattle.pass_run.specs.declared.passes.PassCount.{PassCount}
 use Rattle.pass_run.specs.PassLines.{lines_asked, mesh_asked, ends, refused_in}
 use Rattle.pass_run.specs.Results.{Stage, PassResult}
 use Rattle.pass_run.specs.Turns.{lines_at_turns, AreChosen, TakesTurns}

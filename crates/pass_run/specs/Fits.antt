@@ -19,7 +19,7 @@ use Rattle.log_text.specs.declared.LogLine.{LogLine}
 use Rattle.log_text.specs.declared.LogLine.TheVariants as line
 use Rattle.log_replay.specs.Replay.{at_mesh}
 use Rattle.log_replay.specs.Safe.{LinesKeepTheMesh}
-use Rattle.pass_run.specs.declared.passing.PassCount.{PassCount}
+use Rattle.pass_run.specs.declared.passes.PassCount.{PassCount}
 use Rattle.pass_run.specs.Candidates.{length_squared}
 use Rattle.pass_run.specs.PassLines.{PassRules, lines_of, mesh_from, ends, lines_from, mesh_after_all, done_in, refused_in}
 use Rattle.pass_run.specs.Said.{Said}

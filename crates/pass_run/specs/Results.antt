@@ -12,7 +12,7 @@ use Rattle.edit_any.specs.Dispatch.{answer_to}
 use Rattle.log_text.specs.declared.LogLine.{LogLine}
 use Rattle.outside_io.specs.declared.stop.Stop.{Stop}
 use Rattle.outside_io.specs.Outside.{Around, StoresNothing}
-use Rattle.pass_run.specs.declared.passing.PassCount.{PassCount}
+use Rattle.pass_run.specs.declared.passes.PassCount.{PassCount}
 use Rattle.pass_run.specs.PassLines.{line_of, mesh_asked, done_in, refused_in}
 use Rattle.pass_run.specs.Said.{Said}
 

@@ -5,7 +5,7 @@ use Rattle.edit_base.specs.declared.Asked.{Asked}
 use Rattle.edit_base.specs.declared.Edit.{Edit}
 use Rattle.log_text.specs.declared.LogLine.{LogLine}
 use Rattle.outside_io.specs.declared.stop.Stop.{Stop}
-use Rattle.pass_run.specs.declared.passing.PassCount.{PassCount}
+use Rattle.pass_run.specs.declared.passes.PassCount.{PassCount}
 use Rattle.pass_run.specs.PassLines.{lines_asked, mesh_asked, ends}
 use Rattle.pass_run.specs.Results.{Stage, PassResult}
 

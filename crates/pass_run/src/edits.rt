@@ -12,7 +12,7 @@ ghost use Rattle.pass_run.specs.PassLines.{line_of, lines_from, mesh_after_all};
 ghost use Rattle.pass_run.specs.Results.{PassResult, exact_answer, stage};
 ghost use Rattle.pass_run.specs.Edits.{edits_exactly, answers_from, answer_in};
 
-use crate::passing::{PassCount, count_of, is_over, no_edit, sum};
+use crate::passes::{PassCount, count_of, is_over, no_edit, sum};
 use crate::turns::line_of;
 use edit_any::edit;
 use edit_base::{Asked, Edit};

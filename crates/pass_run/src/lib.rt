@@ -1,20 +1,20 @@
 //! Passes over a mesh: each candidate in turn, with the line of each edit.
 #![tactic(auto)]
 
-mod choosing;
+mod candidates;
+mod chooser;
 mod edits;
 mod faults;
-mod fitting;
 pub mod laws;
 mod lengths;
-mod listing;
-mod pairing;
-mod passing;
+mod near_edges;
+mod passes;
+mod sizing_pass;
 mod terms;
 mod turns;
 
 pub use edits::{Answers, EditTerms, edits_to};
 pub use faults::PassFault;
-pub use fitting::{fit_pass, fit_to};
-pub use passing::{PassCount, pass, pass_to};
+pub use passes::{PassCount, pass, pass_to};
+pub use sizing_pass::{fit_pass, fit_to};
 pub use terms::{PassTerms, Turns};

@@ -9,7 +9,7 @@ ghost use Rattle.pass_run.specs.Candidates.{is_due, choice_in, limit_of, length_
 ghost use Rattle.pass_run.specs.PassLines.{line_of};
 ghost use Rattle.pass_run.specs.Results.{exact_answer, line_asked, mesh_then};
 
-use crate::choosing::Chooses;
+use crate::chooser::Chooses;
 use crate::lengths::{are_near, is_longer, is_shorter, length_squared};
 use edit_any::edit;
 use edit_base::{Asked, EdgeFaces, Edit, PassKind, edge_beside, is_crowded, is_edge};

@@ -1,5 +1,5 @@
 -- The ways that a choice and a search tell.
-use Rattle.step_choose.specs.declared.choosing.Choice.{Choice}
+use Rattle.step_choose.specs.declared.choice.Choice.{Choice}
 use Rattle.step_choose.specs.Choice.{Way}
 
 -- how a choice takes the step

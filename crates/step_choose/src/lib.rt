@@ -3,16 +3,16 @@
 #![tactic(auto)]
 
 mod asked_pairs;
-mod choosing;
+mod choice;
 mod found;
-mod halving;
+mod halved_shifts;
 mod impulses;
 mod near;
 mod rounds;
 mod settings;
 
 pub use asked_pairs::asked_hits;
-pub use choosing::{Choice, choose, choose_by_hits};
+pub use choice::{Choice, choose, choose_by_hits};
 pub use settings::Settings;
 
 /// The greatest number of impulse passes that may be set.

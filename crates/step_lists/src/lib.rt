@@ -3,16 +3,16 @@
 
 mod ahead;
 mod arrived;
-mod asking;
+mod backoff;
 mod faces;
 mod kept;
+mod kept_calls;
 mod lengths;
+mod list_of_mesh;
 mod lists;
-mod serving;
 mod spread;
 mod vertices;
-mod waiting;
 
-pub use asking::ListOfMesh;
 pub use kept::KeptList;
+pub use list_of_mesh::ListOfMesh;
 pub use lists::StepLists;

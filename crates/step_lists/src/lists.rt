@@ -10,9 +10,9 @@ ghost use Rattle.step_lists.specs.Compared.{IsOfMesh};
 
 use crate::ahead::skin_ahead;
 use crate::arrived::Arrived;
-use crate::asking::{ListOfMesh, compared};
+use crate::backoff::Waiting;
 use crate::kept::KeptList;
-use crate::waiting::Waiting;
+use crate::list_of_mesh::{ListOfMesh, compared};
 use grid_base::{DEPTH_MAX, NoMemory};
 use mesh_base::{Shifts, Surface};
 use neighbour_list::failing_by_list;

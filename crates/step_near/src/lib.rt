@@ -2,7 +2,7 @@
 #![tactic(auto)]
 
 mod few;
-mod moving;
+mod moves;
 mod near;
 
 pub use near::all_pass_near;

@@ -9,7 +9,7 @@ ghost use Rattle.pair_scan.specs.Found.{has_none};
 ghost use Rattle.step_near.specs.Few.{are_few};
 
 use crate::few::are_few;
-use crate::moving::moves_by;
+use crate::moves::moves_by;
 use edit_check::{Move, Touch, check};
 use grid_base::{DEPTH_MAX, NoMemory};
 use mesh_base::{Shifts, Surface};

@@ -3,10 +3,10 @@
 
 mod directive;
 pub mod laws;
-mod reading;
+mod parser;
 
 pub use directive::{Directive, Directives, Placed};
-pub use reading::read_steps;
+pub use parser::read_steps;
 
 /// The greatest number of groups that may be open at once.
 pub const GROUPS_MAX: usize = 8;

@@ -1,4 +1,4 @@
-use crate::moving::Blocks;
+use crate::blocks::Blocks;
 use mesh_base::Shifts;
 
 /// A zone round in which no pair fails.

@@ -1,15 +1,15 @@
 //! Impact zones: blocks of vertices that move as one.
 #![tactic(auto)]
 
+mod blocks;
+mod failing_source;
 mod found;
 mod labels;
 pub mod laws;
-mod moving;
-mod searching;
-mod telling;
 mod totals;
+mod zone_search;
 
+pub use blocks::Blocks;
+pub use failing_source::{ByScan, TellsFailing};
 pub use found::Zoned;
-pub use moving::Blocks;
-pub use searching::{zones, zones_told};
-pub use telling::{ByScan, TellsFailing};
+pub use zone_search::{zones, zones_told};

@@ -4,18 +4,18 @@
 //! out, and that nothing is done where standard output goes to a file of the job.
 #![tactic(auto)]
 
-mod answering;
 mod band;
 mod cards;
-mod explaining;
+mod command_line;
+mod explanation;
 mod help;
 mod shipped;
 
-use answering::{USAGE, answer};
 use band::shipped_band;
 use card_files::{Asked, CardDesk, MarkedSink, without_card};
 use cards::{asked_of, keep_card, other_job};
-use explaining::{Seen, explain};
+use command_line::{USAGE, answer};
+use explanation::{Seen, explain};
 use mesh_field::{Fields, no_fields};
 use mesh_sizing::Sizing;
 use outside_io::{Ending, FileDesk, StdSink, Trouble};

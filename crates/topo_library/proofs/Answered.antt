@@ -7,7 +7,7 @@ use Rattle.pass_run.specs.Edits.{edit_rules}
 use Rattle.pass_run.proofs.Edited.{few_answers}
 use Rattle.track_engine.specs.State.{State, is_open}
 use Rattle.track_engine.specs.Effects.{edited_answers}
-use Rattle.track_held.specs.declared.editing_given.ToldAnswer.{ToldAnswer}
+use Rattle.track_held.specs.declared.given_edits.ToldAnswer.{ToldAnswer}
 
 few : (asked : List Asked) (s : State) → length (edited_answers asked s) ≤ length asked
 unfolding edited_answers

@@ -6,10 +6,10 @@ use Rattle.step_text.specs.declared.Directive.{Directive}
 use Rattle.track_engine.specs.State.{State}
 use Rattle.track_engine.specs.Effects.{Effect}
 use Rattle.track_held.specs.declared.given.NamedPoint.{NamedPoint}
-use Rattle.track_held.specs.declared.editing_given.GivenEdit.{GivenEdit}
-use Rattle.track_held.specs.declared.editing_given.ToldAnswer.{ToldAnswer}
+use Rattle.track_held.specs.declared.given_edits.GivenEdit.{GivenEdit}
+use Rattle.track_held.specs.declared.given_edits.ToldAnswer.{ToldAnswer}
 use Rattle.topo_library.specs.declared.fault.TopoFault.{TopoFault}
-use Rattle.topo_library.specs.declared.telling.TopoEdits.{TopoEdits}
+use Rattle.topo_library.specs.declared.results.TopoEdits.{TopoEdits}
 use Rattle.topo_library.specs.declared.tracker.Tracker.{Tracker}
 use Rattle.step_choose.specs.declared.Settings.{Settings}
 use Rattle.topo_library.specs.Codes.{tracked, HasWritten, HandleHasWritten, HasEdited, HandleHasEdited, HasDone, HandleHasDone, HasTold, HandleHasTold, HasSet, HandleHasSet, HasRenumbered, HandleHasRenumbered, HasFitted, HandleHasFitted, HasForgotten, HandleHasForgotten, HasKept, HandleHasKeptBy, HasShiftedEach, HandleHasShiftedEach, HasTakenLog, HandleHasTakenLog}

@@ -17,7 +17,7 @@ use Rattle.log_text.specs.declared.LogLine.{LogLine}
 use Rattle.log_text.specs.Lines.{text_of_lines}
 use Rattle.log_write.specs.Kept.{lines_where}
 use Rattle.outside_io.specs.declared.stop.Stop.TheVariants.{NoMemory}
-use Rattle.pass_run.specs.declared.passing.PassCount.{PassCount}
+use Rattle.pass_run.specs.declared.passes.PassCount.{PassCount}
 use Rattle.step_choose.specs.declared.TheConstants.{PASSES_MAX}
 use Rattle.step_choose.specs.declared.Settings.{Settings}
 use Rattle.step_text.specs.declared.Directive.{Directive}
@@ -30,10 +30,10 @@ use Rattle.track_engine.specs.Parts.{Writes, FitTells}
 use Rattle.track_held.specs.declared.given.GivenPoint.{GivenPoint}
 use Rattle.track_held.specs.declared.given.GivenFace.{GivenFace}
 use Rattle.track_held.specs.declared.given.NamedPoint.{NamedPoint}
-use Rattle.track_held.specs.declared.making.MakeFault.{MakeFault}
-use Rattle.track_held.specs.declared.making_numbered.NumberedFault.{NumberedFault}
-use Rattle.track_held.specs.declared.editing_given.GivenEdit.{GivenEdit}
-use Rattle.track_held.specs.declared.editing_given.ToldAnswer.{ToldAnswer}
+use Rattle.track_held.specs.declared.new_tracker.MakeFault.{MakeFault}
+use Rattle.track_held.specs.declared.numbered_tracker.NumberedFault.{NumberedFault}
+use Rattle.track_held.specs.declared.given_edits.GivenEdit.{GivenEdit}
+use Rattle.track_held.specs.declared.given_edits.ToldAnswer.{ToldAnswer}
 use Rattle.track_held.specs.Asking.{CanBeAsked, asking, CanAllBeAsked, asking_all}
 use Rattle.track_held.specs.Editing.{edits_asked, answer_told}
 use Rattle.track_held.specs.Given.{given_mesh, make_fault}
@@ -42,8 +42,8 @@ use Rattle.track_held.specs.Numbered.{numbered_fault}
 use Rattle.track_held.specs.Renumbered.{dense_state}
 use Rattle.topo_library.specs.Faults.{make_place, numbered_place, use_place}
 use Rattle.topo_library.specs.Tellings.{edits_told}
-use Rattle.topo_library.specs.declared.telling.TopoEdits.{TopoEdits}
-use Rattle.topo_library.specs.declared.telling.TopoCounted.{TopoCounted}
+use Rattle.topo_library.specs.declared.results.TopoEdits.{TopoEdits}
+use Rattle.topo_library.specs.declared.results.TopoCounted.{TopoCounted}
 use Rattle.topo_library.specs.declared.fault.TopoFault.{TopoFault}
 use Rattle.topo_library.specs.declared.tracker.Tracker.{Tracker}
 

@@ -5,11 +5,11 @@ use Rattle.mesh_base.specs.declared.ShapeFault.TheVariants.{TooManyVertices, Too
 use Rattle.mesh_base.specs.declared.ShapeFault.TheVariants.{Repeated, Doubled, Unbalanced}
 use Rattle.mesh_base.specs.declared.UseWhy.{UseWhy}
 use Rattle.mesh_base.specs.declared.UseWhy.TheVariants.{NoVertex, ShiftRange, Box, NoField, Solid}
-use Rattle.track_held.specs.declared.making.MakeFault.{MakeFault}
-use Rattle.track_held.specs.declared.making.MakeFault.TheVariants.{Outside, Shape, Meets}
-use Rattle.track_held.specs.declared.making_numbered.NumberedFault.{NumberedFault}
-use Rattle.track_held.specs.declared.making_numbered.NumberedFault.TheVariants.{Outside as OutsideBox, Rows}
-use Rattle.track_held.specs.declared.making_numbered.NumberedFault.TheVariants.{Meets as MeetsPair}
+use Rattle.track_held.specs.declared.new_tracker.MakeFault.{MakeFault}
+use Rattle.track_held.specs.declared.new_tracker.MakeFault.TheVariants.{Outside, Shape, Meets}
+use Rattle.track_held.specs.declared.numbered_tracker.NumberedFault.{NumberedFault}
+use Rattle.track_held.specs.declared.numbered_tracker.NumberedFault.TheVariants.{Outside as OutsideBox, Rows}
+use Rattle.track_held.specs.declared.numbered_tracker.NumberedFault.TheVariants.{Meets as MeetsPair}
 use Rattle.mesh_rows.specs.declared.faults.RowsFault.{RowsFault}
 use Rattle.mesh_rows.specs.declared.faults.RowsFault.TheVariants.{TooManyVertices as ManyVertices}
 use Rattle.mesh_rows.specs.declared.faults.RowsFault.TheVariants.{TooManyFaces as ManyFaces}

@@ -1,6 +1,6 @@
 -- What the codes say of the call that closes a fold.
 use Rattle.std.specs.Prelude.{◌≡◌, ℕ, Option, Some, None}
-use Rattle.track_held.specs.declared.editing_given.ToldAnswer.{ToldAnswer}
+use Rattle.track_held.specs.declared.given_edits.ToldAnswer.{ToldAnswer}
 use Rattle.track_held.specs.Folding.{fold_effect, fold_told}
 use Rattle.topo_library.specs.Codes.{tracked, HandleHasWritten, HandleHasTold}
 use Rattle.topo_library.specs.declared.tracker.Tracker.{Tracker}

@@ -3,15 +3,15 @@ use Rattle.std.specs.Prelude.{ℕ, ◌==◌, List}
 use Rattle.mesh_base.specs.declared.How.{How}
 use Rattle.mesh_base.specs.declared.How.TheVariants.{Whole, Impulse, Zones, Halved, Zero}
 use Rattle.mesh_sizing.specs.declared.sizing.Band.{Band}
-use Rattle.pass_run.specs.declared.passing.PassCount.{PassCount}
+use Rattle.pass_run.specs.declared.passes.PassCount.{PassCount}
 use Rattle.step_choose.specs.declared.Settings.{Settings}
 use Rattle.track_engine.specs.State.{Group}
 use Rattle.track_engine.specs.declared.told.StepTold.{StepTold}
-use Rattle.track_held.specs.declared.closing.Closing.{Closing}
-use Rattle.track_held.specs.declared.closing.Closing.TheVariants.{NoGroup, Kept, TakenBack}
+use Rattle.track_held.specs.declared.group_end.Closing.{Closing}
+use Rattle.track_held.specs.declared.group_end.Closing.TheVariants.{NoGroup, Kept, TakenBack}
 use Rattle.track_held.specs.Closings.{closing}
-use Rattle.topo_library.specs.declared.telling.TopoWay.{TopoWay}
-use Rattle.topo_library.specs.declared.telling.TopoEdits.{TopoEdits}
+use Rattle.topo_library.specs.declared.results.TopoWay.{TopoWay}
+use Rattle.topo_library.specs.declared.results.TopoEdits.{TopoEdits}
 
 -- a way, with the number of pairs
 abbrev pub way_at : ℕ → ℕ → ℕ → TopoWay

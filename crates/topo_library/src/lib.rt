@@ -32,46 +32,45 @@ ghost use Rattle.topo_library.specs.Codes.{tracked, lines_told, HandleHasDone, H
 ghost use Rattle.topo_library.specs.Tellings.{way_told, edits_told, closing_of, undone_of, settings_at, band_of};
 
 mod alone;
-mod calling;
 mod codes;
 mod components;
-mod editing;
+mod directives;
+mod edit_calls;
 mod fault;
-mod folding;
+mod fold_closure;
 mod handle;
 mod loose;
-mod making;
-mod making_numbered;
+mod new_tracker;
+mod numbered_tracker;
 mod owned;
-mod reading;
+mod queries;
+mod results;
 mod settings;
-mod telling;
 mod tracker;
 
 use alone::{TopoFive, tell_meets, tell_passes};
-use calling::{
-    advance, close, fit, fit_by, pass_with, renumber, set, shift_each, shift_every, shift_one,
-    step,
-};
 use codes::{RANGE, REFUSED};
 use components::TopoComponent;
+use directives::{
+    advance, close, fit, fit_by, pass_with, renumber, set, shift_each, shift_every, shift_one, step,
+};
 use edit_base::PassKind;
-use editing::{edit_each, undo};
+use edit_calls::{edit_each, undo};
 use fault::{TopoFault, table_place};
-use folding::close_fold;
+use fold_closure::close_fold;
 use grid_base::{ID_MAX, LENGTH_MAX};
 use handle::Topo;
 use log_text::VERSION;
-use making::make;
-use making_numbered::{NumberedRows, make_numbered};
-use reading::{
+use new_tracker::make;
+use numbered_tracker::{NumberedRows, make_numbered};
+use queries::{
     count, forget_log, keep_lines, read_beside, read_components, read_events, read_faces, read_log,
     read_points, read_solids, read_star,
 };
+use results::{TopoCounted, TopoEdits, TopoWay};
 use settings::{band_of, settings_at};
 use std::alloc::Global;
 use step_text::Directive;
-use telling::{TopoCounted, TopoEdits, TopoWay};
 use track_held::{
     BandTable, Cells, Event, GivenBand, GivenEdit, GivenFace, GivenPoint, NamedFace, NamedPoint,
     ToldAnswer,

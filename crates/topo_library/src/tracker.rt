@@ -6,7 +6,7 @@ ghost use Rattle.step_text.specs.Ranges.{IsInRange};
 
 use crate::codes::{DONE, GROUPED, NO_MEMORY, REFUSED, SPENT, STOPPED};
 use crate::fault::{TopoFault, use_place};
-use crate::telling::{TopoEdits, TopoWay, closing_number, edits_told, undone_number, way_told};
+use crate::results::{TopoEdits, TopoWay, closing_number, edits_told, undone_number, way_told};
 use edit_base::{Asked, PassKind};
 use mesh_journal::JournalMesh;
 use mesh_sizing::Band;

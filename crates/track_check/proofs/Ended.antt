@@ -11,7 +11,7 @@ use Rattle.outside_io.specs.Sink.{appended, AppendsPart}
 use Rattle.outside_io.specs.World.{Contents}
 use Rattle.outside_io.proofs.Outsides.{counts_then, counts_stopped}
 use Rattle.track_input.specs.Words.{MeshName}
-use Rattle.track_check.specs.declared.finding.Found.{Found}
+use Rattle.track_check.specs.declared.file_lists.Found.{Found}
 use Rattle.track_check.specs.Check.{found_by, text_told, ending_told}
 use Rattle.track_check.specs.Finding.{found_view, Finds}
 use Rattle.track_check.specs.Endings.{Ends}

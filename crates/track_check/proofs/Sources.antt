@@ -11,8 +11,8 @@ use Rattle.track_input.specs.Fetched.{source_of}
 use Rattle.track_input.specs.Source.{Source, Bytes, Absent, TooLong, IsSource}
 use Rattle.track_input.specs.Words.{MeshName}
 use Rattle.track_input.proofs.Sources.{some_source}
-use Rattle.track_check.specs.declared.finding.Found.{Found}
-use Rattle.track_check.specs.declared.finding.Found.TheVariants as found
+use Rattle.track_check.specs.declared.file_lists.Found.{Found}
+use Rattle.track_check.specs.declared.file_lists.Found.TheVariants as found
 use Rattle.track_check.specs.Check.{Check, IsCheck}
 use Rattle.track_check.specs.Finding.{Finds, Reads}
 

@@ -8,8 +8,8 @@ use Rattle.outside_io.specs.Desk.{Files}
 use Rattle.track_input.specs.declared.Format.{Format}
 use Rattle.track_input.specs.Words.{MeshName}
 use Rattle.track_convert.specs.Formats.{lists_in}
-use Rattle.track_check.specs.declared.finding.Found.{Found}
-use Rattle.track_check.specs.declared.finding.Found.TheVariants as found
+use Rattle.track_check.specs.declared.file_lists.Found.{Found}
+use Rattle.track_check.specs.declared.file_lists.Found.TheVariants as found
 use Rattle.track_check.specs.Check.{Check, IsCheck, found_of_lists, found_by}
 
 -- what was found, as lists or a refusal

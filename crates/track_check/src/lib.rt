@@ -1,11 +1,11 @@
 //! What is wrong with a mesh file: the command `check`.
 #![tactic(auto)]
 
-mod checking;
+mod command;
 mod fault;
-mod finding;
-mod listing;
+mod file_lists;
+mod list_faults;
 mod report;
 
-pub use checking::check;
+pub use command::check;
 pub use fault::{FAULTS_MAX, Fault};

@@ -13,7 +13,7 @@ use Rattle.outside_io.specs.Outside.{Around, Counts, OnlyLooks}
 use Rattle.outside_io.specs.World.{Contents}
 use Rattle.outside_io.proofs.Outsides.{counts_then, counts_stopped}
 use Rattle.track_input.specs.Words.{MeshName}
-use Rattle.track_convert.specs.declared.finding.Found.{Found}
+use Rattle.track_convert.specs.declared.file_lists.Found.{Found}
 use Rattle.track_convert.specs.Conversion.{found_by}
 use Rattle.track_convert.specs.Finding.{found_view, Finds}
 use Rattle.track_convert.specs.Endings.{FilesAtFault, Ends}

@@ -1,9 +1,9 @@
 //! A mesh file is stored in another format: the command `convert`.
 #![tactic(auto)]
 
-mod converting;
-mod finding;
+mod command;
+mod file_lists;
 mod formats;
 
-pub use converting::convert;
+pub use command::convert;
 pub use formats::read_lists;

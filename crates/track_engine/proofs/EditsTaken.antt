@@ -11,7 +11,7 @@ use Rattle.log_text.specs.declared.LogLine.{LogLine}
 use Rattle.log_write.specs.Written.{WrittenInPart}
 use Rattle.outside_io.specs.declared.stop.Stop.{Stop}
 use Rattle.outside_io.specs.Sink.{appended}
-use Rattle.pass_run.specs.declared.passing.PassCount.{PassCount}
+use Rattle.pass_run.specs.declared.passes.PassCount.{PassCount}
 use Rattle.pass_run.specs.Edits.{edit_rules, answers_from}
 use Rattle.pass_run.specs.PassLines.{lines_from, mesh_after_all, done_in, refused_in}
 use Rattle.pass_run.specs.Said.{SaidInPart}

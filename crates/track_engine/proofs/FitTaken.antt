@@ -22,7 +22,7 @@ use Rattle.outside_io.specs.Desk.{Files}
 use Rattle.outside_io.specs.Outside.{Around, StoresNothing, holds_of, written_of}
 use Rattle.outside_io.specs.declared.stop.Stop.{Stop}
 use Rattle.outside_io.specs.Sink.{appended}
-use Rattle.pass_run.specs.declared.passing.PassCount.{PassCount}
+use Rattle.pass_run.specs.declared.passes.PassCount.{PassCount}
 use Rattle.pass_run.specs.PassLines.{done_in, refused_in}
 use Rattle.pass_run.specs.Fits.{turn_of, fit_rules, fit_lines, mesh_after_fit, AreWanted, AreFitLines, Fits}
 use Rattle.log_write.proofs.WrittenLines.{written_nothing}

@@ -13,7 +13,7 @@ use Rattle.log_text.specs.declared.LogLine.{LogLine}
 use Rattle.outside_io.specs.Desk.{Files}
 use Rattle.outside_io.specs.Sink.{appended}
 use Rattle.pass_run.specs.Said.{SaidInPart}
-use Rattle.pass_run.specs.declared.passing.PassCount.{PassCount}
+use Rattle.pass_run.specs.declared.passes.PassCount.{PassCount}
 use Rattle.pass_run.specs.Candidates.{candidates}
 use Rattle.pass_run.specs.PassLines.{exactly, terms_of, lines_due, mesh_due, done_in, refused_in}
 use Rattle.log_write.specs.Written.{WrittenInPart}

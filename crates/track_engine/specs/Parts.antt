@@ -23,7 +23,7 @@ use Rattle.log_write.specs.Written.{WrittenInPart}
 use Rattle.track_engine.specs.Saved.{Target}
 use Rattle.track_engine.specs.World.{Contents, Logs, StopsIn}
 use Rattle.track_engine.specs.Told.{fit_told}
-use Rattle.pass_run.specs.declared.passing.PassCount.{PassCount}
+use Rattle.pass_run.specs.declared.passes.PassCount.{PassCount}
 
 -- the line of a replay's mesh is written and the mesh is stored, or it stops in that
 abbrev pub Saves : {T : Type 0} → Target → ℕ → Replay → Contents → Contents → Result T Stop → Type 0

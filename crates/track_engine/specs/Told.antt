@@ -6,7 +6,7 @@ use Rattle.mesh_sizing.specs.declared.sizing.Want.{Want}
 use Rattle.edit_base.specs.declared.PassKind.{PassKind}
 use Rattle.edit_base.specs.declared.Asked.{Asked}
 use Rattle.outside_io.specs.declared.stop.Stop.{Stop}
-use Rattle.pass_run.specs.declared.passing.PassCount.{PassCount}
+use Rattle.pass_run.specs.declared.passes.PassCount.{PassCount}
 use Rattle.pass_run.specs.PassLines.{done_in, refused_in}
 use Rattle.track_engine.specs.declared.told.StepTold.{StepTold}
 use Rattle.track_engine.specs.State.{State}

@@ -6,7 +6,7 @@ ghost use Rattle.track_engine.specs.Shifting.{asks};
 use crate::asked_shifts::AskedShifts;
 use crate::open_groups::OpenGroups;
 use crate::run_state::RunState;
-use crate::shifting::asks;
+use crate::shift_sums::asks;
 use grid_base::NoMemory;
 use mesh_base::Surface;
 use std::alloc::Global;

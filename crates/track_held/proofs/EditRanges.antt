@@ -6,7 +6,7 @@ use Rattle.grid_base.specs.declared.TheConstants.{ID_MAX}
 use Rattle.edit_base.specs.declared.Asked.{Asked}
 use Rattle.edit_base.specs.declared.Asked.TheVariants as asked
 use Rattle.log_read.specs.Laws.{IsFrom, IsEdgeInRange, IsAskedInRange}
-use Rattle.track_held.specs.declared.editing_given.GivenEdit.{GivenEdit}
+use Rattle.track_held.specs.declared.given_edits.GivenEdit.{GivenEdit}
 use Rattle.track_held.specs.Editing.{is_id, ends, edge_edit, zip_edit, edit_asked, asked_then, edits_add, RowsAskInRange, RowsAskEach}
 
 id_fits : (v : ℕ) → is_id v ≡ true → IsFrom 1 ID_MAX v

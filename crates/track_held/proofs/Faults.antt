@@ -11,9 +11,9 @@ use Rattle.mesh_base.specs.declared.ShapeFault.TheVariants.{TooManyVertices, Too
 use Rattle.mesh_plain.specs.Shape.{shape_fault}
 use Rattle.track_held.specs.declared.given.GivenPoint.{GivenPoint}
 use Rattle.track_held.specs.declared.given.GivenFace.{GivenFace}
-use Rattle.track_held.specs.declared.making.MakeFault.{MakeFault}
-use Rattle.track_held.specs.declared.making.MakeFault.TheVariants.{Shape}
-use Rattle.track_held.specs.declared.making.MakeRefusal.{MakeRefusal}
+use Rattle.track_held.specs.declared.new_tracker.MakeFault.{MakeFault}
+use Rattle.track_held.specs.declared.new_tracker.MakeFault.TheVariants.{Shape}
+use Rattle.track_held.specs.declared.new_tracker.MakeRefusal.{MakeRefusal}
 use Rattle.track_held.specs.Given.{point_in, face_in, crowd_fault, box_fault, too_many_faces, lists_fault, make_fault, IsRefusal}
 
 module _ (points : List GivenPoint) (faces : List GivenFace) (few : length points ≤ VERTICES_MAX) (none : box_fault points ≡ None) (ps : List Point) (fs : Faces) (of_points : ps ≡ map point_in points) (of_faces : fs ≡ map face_in faces) where

@@ -7,7 +7,7 @@ use Rattle.mesh_base.specs.Pairs.{edges}
 use Rattle.mesh_sizing.specs.declared.sizing.Band.{Band}
 use Rattle.mesh_sizing.specs.declared.sizing.Want.{Want}
 use Rattle.outside_io.specs.declared.stop.Stop.{Stop}
-use Rattle.pass_run.specs.declared.passing.PassCount.{PassCount}
+use Rattle.pass_run.specs.declared.passes.PassCount.{PassCount}
 use Rattle.pass_run.specs.Fits.{AreWanted, turn_of, fit_rules}
 use Rattle.pass_run.specs.PassLines.{PassRules, mesh_from}
 use Rattle.track_engine.specs.State.{State, is_open}

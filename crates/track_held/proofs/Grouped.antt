@@ -14,7 +14,7 @@ use Rattle.track_engine.specs.State.{Group, State}
 use Rattle.track_engine.specs.Effects.{Effect, Proceeds, Refused, Unanswered, opened, kept_whole, taken_back, edited_lines, after_edits, edits_effect, close_effect, undo_effect}
 use Rattle.track_engine.specs.Parts.{Writes}
 use Rattle.track_held.specs.Closings.{closing, closing_by}
-use Rattle.track_held.specs.declared.closing.Closing.TheVariants.{Kept}
+use Rattle.track_held.specs.declared.group_end.Closing.TheVariants.{Kept}
 use Rattle.track_held.specs.Folding.{is_refused, crowded_after, are_clean, finish_effect, group_effect}
 
 -- ---- what an effect tells

@@ -9,9 +9,9 @@ use Rattle.mesh_rows.specs.declared.rows.MeshRows.{MeshRows}
 use Rattle.mesh_rows.specs.declared.faults.RowsFault.TheVariants.{TooManyVertices}
 use Rattle.track_held.specs.declared.given.NamedPoint.{NamedPoint}
 use Rattle.track_held.specs.declared.given.NamedFace.{NamedFace}
-use Rattle.track_held.specs.declared.making_numbered.NumberedFault.{NumberedFault}
-use Rattle.track_held.specs.declared.making_numbered.NumberedFault.TheVariants.{Rows}
-use Rattle.track_held.specs.declared.making_numbered.NumberedRefusal.{NumberedRefusal}
+use Rattle.track_held.specs.declared.numbered_tracker.NumberedFault.{NumberedFault}
+use Rattle.track_held.specs.declared.numbered_tracker.NumberedFault.TheVariants.{Rows}
+use Rattle.track_held.specs.declared.numbered_tracker.NumberedRefusal.{NumberedRefusal}
 use Rattle.track_held.specs.Numbered.{vertex_in, face_row_in, given_rows, crowd_fault, outside_fault, rows_or_meet_fault, numbered_fault, IsRefusal}
 
 module _ (points : List NamedPoint) (faces : List NamedFace) (solids : List ℕ) (next_vertex next_face : ℕ) (vs : List VertexRow) (fs : List FaceRow) (ss : List ℕ) (of_points : vs ≡ map vertex_in points) (of_faces : fs ≡ map face_row_in faces) (of_solids : ss ≡ solids) where

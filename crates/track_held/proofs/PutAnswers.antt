@@ -3,7 +3,7 @@ use Rattle.std.proofs.Common.{◌≡◌, ℕ, zero, suc, ◌+◌, ◌<◌, ◌�
 use Rattle.std.specs.Prelude.{slice_set}
 use Rattle.std.proofs.lemmas.List.{drop_more, drop_all}
 use Rattle.edit_base.specs.declared.Asked.{Asked}
-use Rattle.track_held.specs.declared.editing_given.GivenEdit.{GivenEdit}
+use Rattle.track_held.specs.declared.given_edits.GivenEdit.{GivenEdit}
 use Rattle.track_held.specs.Editing.{edit_asked, asked_then, edits_add}
 
 module _ {X Y : Type 0} (f : X → Y) where

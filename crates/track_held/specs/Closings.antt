@@ -1,8 +1,8 @@
 -- What becomes of a group that is closed.
 use Rattle.std.specs.Prelude.{Bool, true, false, List, [], ◌∷◌, Option, Some, None}
 use Rattle.track_engine.specs.State.{Group}
-use Rattle.track_held.specs.declared.closing.Closing.{Closing}
-use Rattle.track_held.specs.declared.closing.Closing.TheVariants.{NoGroup, Kept, TakenBack}
+use Rattle.track_held.specs.declared.group_end.Closing.{Closing}
+use Rattle.track_held.specs.declared.group_end.Closing.TheVariants.{NoGroup, Kept, TakenBack}
 
 -- by whether it has failed, if one is open
 abbrev pub closing_by : Option Bool → Closing

@@ -13,8 +13,8 @@ use Rattle.edit_base.specs.declared.Edit.TheVariants as edit
 use Rattle.edit_base.specs.declared.Why.{Why}
 use Rattle.edit_base.specs.declared.Why.TheVariants as why
 use Rattle.log_read.specs.Laws.{IsAskedInRange}
-use Rattle.track_held.specs.declared.editing_given.GivenEdit.{GivenEdit}
-use Rattle.track_held.specs.declared.editing_given.ToldAnswer.{ToldAnswer}
+use Rattle.track_held.specs.declared.given_edits.GivenEdit.{GivenEdit}
+use Rattle.track_held.specs.declared.given_edits.ToldAnswer.{ToldAnswer}
 
 -- ---- what is asked
 

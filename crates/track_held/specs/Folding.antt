@@ -10,7 +10,7 @@ use Rattle.outside_io.specs.declared.stop.Stop.{Stop}
 use Rattle.pass_run.specs.PassLines.{refused_in}
 use Rattle.track_engine.specs.State.{Group, State}
 use Rattle.track_engine.specs.Effects.{Effect, Proceeds, opened, kept_whole, taken_back, edited_lines, edited_mesh, edited_answers, after_edits}
-use Rattle.track_held.specs.declared.editing_given.ToldAnswer.{ToldAnswer}
+use Rattle.track_held.specs.declared.given_edits.ToldAnswer.{ToldAnswer}
 use Rattle.track_held.specs.Editing.{answer_told, why_told, reason_at}
 use Rattle.track_held.specs.Folds.{fold_why, fold_edits, fold_vertex, first_crowded}
 

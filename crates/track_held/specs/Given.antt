@@ -17,10 +17,10 @@ use Rattle.mesh_base.specs.Failing.{first_meeting}
 use Rattle.mesh_plain.specs.Shape.{shape_fault}
 use Rattle.track_held.specs.declared.given.GivenPoint.{GivenPoint}
 use Rattle.track_held.specs.declared.given.GivenFace.{GivenFace}
-use Rattle.track_held.specs.declared.making.MakeFault.{MakeFault}
-use Rattle.track_held.specs.declared.making.MakeFault.TheVariants.{Outside, Shape, Meets}
-use Rattle.track_held.specs.declared.making.MakeRefusal.{MakeRefusal}
-use Rattle.track_held.specs.declared.making.MakeRefusal.TheVariants.{NoMemory, Fault}
+use Rattle.track_held.specs.declared.new_tracker.MakeFault.{MakeFault}
+use Rattle.track_held.specs.declared.new_tracker.MakeFault.TheVariants.{Outside, Shape, Meets}
+use Rattle.track_held.specs.declared.new_tracker.MakeRefusal.{MakeRefusal}
+use Rattle.track_held.specs.declared.new_tracker.MakeRefusal.TheVariants.{NoMemory, Fault}
 
 -- where a point stands
 abbrev pub position_in : GivenPoint → Triple

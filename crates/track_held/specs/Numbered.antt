@@ -18,10 +18,10 @@ use Rattle.mesh_rows.specs.Faults.{rows_fault}
 use Rattle.track_held.specs.declared.given.GivenPoint.{GivenPoint}
 use Rattle.track_held.specs.declared.given.NamedPoint.{NamedPoint}
 use Rattle.track_held.specs.declared.given.NamedFace.{NamedFace}
-use Rattle.track_held.specs.declared.making_numbered.NumberedFault.{NumberedFault}
-use Rattle.track_held.specs.declared.making_numbered.NumberedFault.TheVariants.{Outside, Rows, Meets}
-use Rattle.track_held.specs.declared.making_numbered.NumberedRefusal.{NumberedRefusal}
-use Rattle.track_held.specs.declared.making_numbered.NumberedRefusal.TheVariants.{NoMemory, Fault}
+use Rattle.track_held.specs.declared.numbered_tracker.NumberedFault.{NumberedFault}
+use Rattle.track_held.specs.declared.numbered_tracker.NumberedFault.TheVariants.{Outside, Rows, Meets}
+use Rattle.track_held.specs.declared.numbered_tracker.NumberedRefusal.{NumberedRefusal}
+use Rattle.track_held.specs.declared.numbered_tracker.NumberedRefusal.TheVariants.{NoMemory, Fault}
 use Rattle.track_held.specs.Given.{point_in, is_outside}
 
 -- where a vertex is to stand

@@ -19,7 +19,7 @@ ghost use Rattle.log_text.specs.Lines.{text_of_lines};
 ghost use Rattle.log_write.specs.Kept.{told_in, lines_where};
 ghost use Rattle.track_held.specs.Kept.{facts};
 
-use crate::closing::{Closing, closing_by};
+use crate::group_end::{Closing, closing_by};
 use grid_base::{NoMemory, Point, Shift};
 use log_text::LogLine;
 use log_write::KeptLines;

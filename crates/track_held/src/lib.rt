@@ -4,38 +4,38 @@
 #![tactic(auto)]
 
 mod asked;
+mod band_pass;
 mod band_table;
-mod closing;
-mod editing;
-mod editing_given;
+mod edits;
 mod events;
-mod fitting;
-mod folding;
+mod fold_closure;
 mod folds;
 mod given;
+mod given_edits;
+mod group_end;
 mod held;
-mod making;
-mod making_numbered;
-mod reading;
+mod new_tracker;
+mod numbered_tracker;
+mod queries;
 mod renumbering;
-mod telling;
+mod steps;
 
 pub use asked::{asking, asking_all};
 pub use band_table::{
     BandTable, Cells, GivenBand, TableFault, cells_have_their_bands, ends_are_nearest,
 };
-pub use closing::Closing;
-pub use editing_given::{
-    AskedEdits, GivenEdit, ToldAnswer, answer_told, edge_ends, edit_asked, edits_asked,
-    put_answers, rows_ask_in_range,
-};
 pub use events::{Event, Events, events_of};
 pub use folds::folds_ask_in_range;
 pub use given::{GivenFace, GivenPoint, NamedFace, NamedPoint};
+pub use given_edits::{
+    AskedEdits, GivenEdit, ToldAnswer, answer_told, edge_ends, edit_asked, edits_asked,
+    put_answers, rows_ask_in_range,
+};
+pub use group_end::Closing;
 pub use held::Held;
-pub use making::{MakeFault, MakeRefusal, track};
-pub use making_numbered::{NumberedFault, NumberedRefusal, track_numbered};
-pub use reading::{
+pub use new_tracker::{MakeFault, MakeRefusal, track};
+pub use numbered_tracker::{NumberedFault, NumberedRefusal, track_numbered};
+pub use queries::{
     NamedFaces, NamedPoints, beside_edge, named_faces, named_points, put_rows, solid_vertices,
     star_of,
 };

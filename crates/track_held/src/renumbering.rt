@@ -13,7 +13,7 @@ ghost use Rattle.track_engine.specs.Engines.{state_in};
 ghost use Rattle.track_held.specs.Renumbered.{ranked_shift, dense_shifts, dense_mesh, dense_state};
 
 use crate::held::Held;
-use crate::reading::solid_vertices;
+use crate::queries::solid_vertices;
 use grid_base::NoMemory;
 use mesh_base::{Ids, Scale, ShiftOf, Shifts, Surface, VertexId, live_vertices};
 use mesh_journal::JournalMesh;

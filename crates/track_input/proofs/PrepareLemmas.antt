@@ -7,8 +7,8 @@ use Rattle.log_text.specs.declared.Refusal.TheVariants as refusal
 use Rattle.outside_io.specs.Desk.{Files}
 use Rattle.outside_io.specs.declared.outside.Fetched.{Fetched}
 use Rattle.outside_io.specs.declared.outside.Fetched.TheVariants as found
-use Rattle.track_input.specs.declared.reading.Ready.{Ready}
-use Rattle.track_input.specs.declared.reading.Ready.TheVariants as ready
+use Rattle.track_input.specs.declared.inputs.Ready.{Ready}
+use Rattle.track_input.specs.declared.inputs.Ready.TheVariants as ready
 use Rattle.track_input.specs.Fetched.{source_of}
 use Rattle.track_input.specs.Source.{Source, Bytes, Absent, TooLong, IsSource}
 use Rattle.track_input.specs.Reading.{Prepares, Reads}

@@ -13,7 +13,7 @@ use Rattle.obj_text.specs.Views.{lists_view}
 use Rattle.step_text.specs.declared.Placed.{Placed}
 use Rattle.step_text.specs.Ranges.{AreInRange}
 use Rattle.step_text.specs.Steps.{steps_of}
-use Rattle.track_input.specs.declared.reading.Ready.TheVariants as ready
+use Rattle.track_input.specs.declared.inputs.Ready.TheVariants as ready
 use Rattle.track_input.specs.Job.{input_of_lists, input_of_shape, input_of_steps, mesh_of_lists, mesh_read}
 use Rattle.track_input.specs.Reading.{Reads, given, AreGood}
 

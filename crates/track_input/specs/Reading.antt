@@ -11,8 +11,8 @@ use Rattle.step_text.specs.declared.Placed.{Placed}
 use Rattle.step_text.specs.Ranges.{AreInRange}
 use Rattle.log_text.specs.declared.Refusal.{Refusal}
 use Rattle.outside_io.specs.Desk.{Files}
-use Rattle.track_input.specs.declared.reading.Ready.{Ready}
-use Rattle.track_input.specs.declared.reading.Ready.TheVariants as ready
+use Rattle.track_input.specs.declared.inputs.Ready.{Ready}
+use Rattle.track_input.specs.declared.inputs.Ready.TheVariants as ready
 use Rattle.track_input.specs.Job.{Job, IsJob, Input, input_of, input_of_lists, mesh_of_job, mesh_read}
 
 -- the mesh of lists that were read, with the limits of a scale

@@ -6,11 +6,11 @@ ghost use Rattle.track_input.specs.Taken.{digit_words, behind, options_behind, I
 ghost use Rattle.track_input.specs.Commands.{scale_of, track_read, convert_read, try_read, log_read, measure_read, prove_read, verify_read, replay_read, check_read, track_app, convert_app, try_app, measure_app, prove_app, verify_app, replay_app, check_app, IsReadBy, IsReadExactly};
 ghost use Rattle.track_input.specs.Named.{named_by, log_names, IsInLimits};
 
-use crate::mesh_file::{MeshFile, is_file_word, mesh_file};
-use crate::taking::{
+use crate::arguments::{
     check_command, convert_command, found_in, log_command, replay_command, track_command,
     try_command, verify_command,
 };
+use crate::mesh_file::{MeshFile, is_file_word, mesh_file};
 use clap::ArgMatches;
 use grid_base::{DECIMALS_MAX, NoMemory};
 use line_text::spelled_number;

@@ -2,13 +2,13 @@
 //! mesh is found to be of good shape, or the first refusal that applies is found.
 #![tactic(auto)]
 
+mod arguments;
 mod command;
-mod fetching;
+mod inputs;
 mod mesh_file;
-mod reading;
-mod taking;
+mod text_fetch;
 
 pub use command::{CUBES_MAX, Command, LogFiles, ProofFiles, ReplayFiles, command_of};
-pub use fetching::fetch_text;
+pub use inputs::{Ready, prepare};
 pub use mesh_file::{Format, MeshFile};
-pub use reading::{Ready, prepare};
+pub use text_fetch::fetch_text;

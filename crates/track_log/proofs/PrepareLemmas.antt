@@ -39,12 +39,12 @@ use Rattle.track_input.proofs.Sources.{some_source}
 use Rattle.track_input.proofs.ReadLemmas.{same_mesh}
 use Rattle.track_log.specs.declared.refusal.LogRefusal.{LogRefusal}
 use Rattle.track_log.specs.declared.refusal.LogRefusal.TheVariants.{Input, Log}
-use Rattle.track_log.specs.declared.preparing.FetchedLog.{FetchedLog}
-use Rattle.track_log.specs.declared.preparing.FetchedLog.TheVariants as fetched
-use Rattle.track_log.specs.declared.preparing.Texts.{Texts}
-use Rattle.track_log.specs.declared.preparing.Texts.TheVariants as texts
-use Rattle.track_log.specs.declared.preparing.Prepared.{Prepared}
-use Rattle.track_log.specs.declared.preparing.Prepared.TheVariants as prepared
+use Rattle.track_log.specs.declared.inputs.FetchedLog.{FetchedLog}
+use Rattle.track_log.specs.declared.inputs.FetchedLog.TheVariants as fetched
+use Rattle.track_log.specs.declared.inputs.Texts.{Texts}
+use Rattle.track_log.specs.declared.inputs.Texts.TheVariants as texts
+use Rattle.track_log.specs.declared.inputs.Prepared.{Prepared}
+use Rattle.track_log.specs.declared.inputs.Prepared.TheVariants as prepared
 use Rattle.track_log.specs.LogJob.{LogJob, IsLogJob, read_of_log, read_of_shape, read_of_lists, read_of_fetched, input_of_test, input_of_read}
 use Rattle.track_log.specs.Fetching.{fetched_by, AreShort, FetchesLog}
 use Rattle.track_log.specs.Preparing.{ReadsLines, ReadsTexts, Tests, ReadsAndTests, PreparesLog}

@@ -4,8 +4,8 @@ use Rattle.grid_base.specs.declared.TheConstants.{TEXT_MAX}
 use Rattle.outside_io.specs.Desk.{Files}
 use Rattle.track_input.specs.Words.{LogNames}
 use Rattle.track_log.specs.declared.refusal.LogRefusal.{LogRefusal}
-use Rattle.track_log.specs.declared.preparing.FetchedLog.{FetchedLog}
-use Rattle.track_log.specs.declared.preparing.FetchedLog.TheVariants as fetched
+use Rattle.track_log.specs.declared.inputs.FetchedLog.{FetchedLog}
+use Rattle.track_log.specs.declared.inputs.FetchedLog.TheVariants as fetched
 use Rattle.track_log.specs.LogJob.{LogJob, IsLogJob, BothTexts, fetched_of}
 
 -- what was fetched, as a job gives it

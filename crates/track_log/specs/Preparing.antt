@@ -13,10 +13,10 @@ use Rattle.track_input.specs.Words.{LogNames}
 use Rattle.track_input.specs.Job.{met_first}
 use Rattle.track_input.specs.Reading.{given, AreGood}
 use Rattle.track_log.specs.declared.refusal.LogRefusal.{LogRefusal}
-use Rattle.track_log.specs.declared.preparing.Texts.{Texts}
-use Rattle.track_log.specs.declared.preparing.Texts.TheVariants as texts
-use Rattle.track_log.specs.declared.preparing.Prepared.{Prepared}
-use Rattle.track_log.specs.declared.preparing.Prepared.TheVariants as prepared
+use Rattle.track_log.specs.declared.inputs.Texts.{Texts}
+use Rattle.track_log.specs.declared.inputs.Texts.TheVariants as texts
+use Rattle.track_log.specs.declared.inputs.Prepared.{Prepared}
+use Rattle.track_log.specs.declared.inputs.Prepared.TheVariants as prepared
 use Rattle.track_log.specs.LogJob.{LogJob, IsLogJob, TextsRead, LogInput, read_of_log}
 use Rattle.track_log.specs.LogJob.{read_of_lists, input_of_test, input_of_read, input_of}
 

@@ -2,12 +2,12 @@
 //! and each refusal has its line.
 #![tactic(auto)]
 
-mod following;
-mod preparing;
+mod inputs;
+mod output;
 mod refusal;
-mod telling;
+mod tested_lines;
 
-pub use following::take_tested;
-pub use preparing::{FetchedLog, Prepared, Texts, fetch_log, prepare_log, read_texts, test_mesh};
+pub use inputs::{FetchedLog, Prepared, Texts, fetch_log, prepare_log, read_texts, test_mesh};
+pub use output::{put_text, refuse};
 pub use refusal::LogRefusal;
-pub use telling::{put_text, refuse};
+pub use tested_lines::take_tested;

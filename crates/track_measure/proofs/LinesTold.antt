@@ -15,9 +15,9 @@ use Rattle.outside_io.proofs.Written.{appended-nil}
 use Rattle.track_log.specs.Taking.{FitsTested}
 use Rattle.track_log.specs.Telling.{Tells}
 use Rattle.track_log.proofs.ToldTexts.{line_some}
-use Rattle.track_measure.specs.declared.telling.MeshShape.{MeshShape}
-use Rattle.track_measure.specs.declared.telling.MeasureLine.{MeasureLine}
-use Rattle.track_measure.specs.declared.telling.MeasureLine.TheVariants.{Measure, Change, End}
+use Rattle.track_measure.specs.declared.measures.MeshShape.{MeshShape}
+use Rattle.track_measure.specs.declared.measures.MeasureLine.{MeasureLine}
+use Rattle.track_measure.specs.declared.measures.MeasureLine.TheVariants.{Measure, Change, End}
 use Rattle.track_measure.specs.MeasureLines.{shape_of, told}
 use Rattle.track_measure.specs.Texts.{genus_word, shape_words, text_of, text_of_told}
 use Rattle.track_measure.specs.Measured.{WritesNothingOrPart, TellsSome, line_text, MeasuresLine}

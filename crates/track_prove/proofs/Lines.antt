@@ -27,8 +27,8 @@ use Rattle.log_run.specs.States.{LogState, with_line}
 use Rattle.log_run.specs.Fits.{LineFits, MayBeTried}
 use Rattle.log_run.specs.Laws.{IsValidState, StepIsClear, FittingLinesAreSafe}
 use Rattle.log_run.specs.Motions.{moved_in, IsCertified, IsJudged, IsClearWhereMoved, PassesWhereMoved}
-use Rattle.track_prove.specs.declared.taking.Taken.{Taken}
-use Rattle.track_prove.specs.declared.taking.Taken.TheVariants.{Fits, Unfit, Bad}
+use Rattle.track_prove.specs.declared.taken_lines.Taken.{Taken}
+use Rattle.track_prove.specs.declared.taken_lines.Taken.TheVariants.{Fits, Unfit, Bad}
 use Rattle.track_prove.specs.Proving.{MakesVerdict, IsProofOf}
 use Rattle.track_prove.specs.Verifying.{FoundOf, IsVerdictOn}
 use Rattle.track_prove.specs.Taking.{IsTaken, IsFitOrNot, IsDenied, IsClearIfFits, IsMadeHere, IsJudgedHere, Goes, AddsProof}

@@ -36,8 +36,8 @@ use Rattle.track_log.specs.Fetching.{FetchesLog, fetched_by}
 use Rattle.track_log.specs.LogJob.{LogJob, BothTexts, TextsRead, LogInput, fetched_of, input_of_read, input_of_test, read_of_lists}
 use Rattle.track_log.specs.Preparing.{ReadsTexts, Tests, IsPrepared, read_by}
 use Rattle.track_log.specs.Preparing.{input_by as log_input_by}
-use Rattle.track_prove.specs.declared.preparing.Given.{Given}
-use Rattle.track_prove.specs.declared.preparing.Given.TheVariants as given
+use Rattle.track_prove.specs.declared.inputs.Given.{Given}
+use Rattle.track_prove.specs.declared.inputs.Given.TheVariants as given
 use Rattle.track_prove.specs.Verifying.{ProofJob, IsProofJob, ProofBytes, ProofTexts, ProofInput, fetched_with_proof, read_with_proof, read_of_bytes, with_proofs, proof_input_of_read, proof_input_of}
 use Rattle.track_prove.specs.Doing.{texts_of, input_by, IsReady, GivesInput, PreparesProof}
 

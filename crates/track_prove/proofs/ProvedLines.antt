@@ -18,10 +18,10 @@ use Rattle.track_log.specs.declared.refusal.LogRefusal.{LogRefusal}
 use Rattle.track_log.specs.declared.refusal.LogRefusal.TheVariants as log
 use Rattle.track_log.specs.LogJob.{LogInput}
 use Rattle.track_log.proofs.ToldTexts.{refused_some}
-use Rattle.track_prove.specs.declared.taking.Taken.{Taken}
-use Rattle.track_prove.specs.declared.taking.Taken.TheVariants.{Fits, Unfit, Bad}
-use Rattle.track_prove.specs.declared.telling.Report.{Report}
-use Rattle.track_prove.specs.declared.telling.Report.TheVariants.{Refused, Text}
+use Rattle.track_prove.specs.declared.taken_lines.Taken.{Taken}
+use Rattle.track_prove.specs.declared.taken_lines.Taken.TheVariants.{Fits, Unfit, Bad}
+use Rattle.track_prove.specs.declared.report.Report.{Report}
+use Rattle.track_prove.specs.declared.report.Report.TheVariants.{Refused, Text}
 use Rattle.track_prove.specs.Judged.{EndsJudged}
 use Rattle.track_prove.specs.Proving.{MakesVerdict, ProveFinds, AreProofsOf, ProveEnds}
 use Rattle.track_prove.specs.Headline.{IsSafe}

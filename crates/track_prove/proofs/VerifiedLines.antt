@@ -18,10 +18,10 @@ use Rattle.log_run.specs.States.{LogState, without_lines}
 use Rattle.track_log.specs.declared.refusal.LogRefusal.{LogRefusal}
 use Rattle.track_log.specs.declared.refusal.LogRefusal.TheVariants as log
 use Rattle.track_log.proofs.ToldTexts.{line_some, refused_some}
-use Rattle.track_prove.specs.declared.taking.Taken.{Taken}
-use Rattle.track_prove.specs.declared.taking.Taken.TheVariants.{Fits, Unfit, Bad}
-use Rattle.track_prove.specs.declared.telling.Report.{Report}
-use Rattle.track_prove.specs.declared.telling.Report.TheVariants.{Refused, Text}
+use Rattle.track_prove.specs.declared.taken_lines.Taken.{Taken}
+use Rattle.track_prove.specs.declared.taken_lines.Taken.TheVariants.{Fits, Unfit, Bad}
+use Rattle.track_prove.specs.declared.report.Report.{Report}
+use Rattle.track_prove.specs.declared.report.Report.TheVariants.{Refused, Text}
 use Rattle.track_prove.specs.Judged.{EndsJudged}
 use Rattle.track_prove.specs.Verifying.{proof_at, beyond, FoundOf, VerifyFinds, verified_text, VerifyEnds}
 use Rattle.track_prove.specs.Taking.{IsTaken, Goes, front_at, behind, first_line}

@@ -22,10 +22,10 @@ use Rattle.track_log.specs.Refused.{refused_text}
 use Rattle.track_log.specs.Telling.{Tells}
 use Rattle.track_log.proofs.PrepareLemmas.{some_log_job}
 use Rattle.track_log.proofs.ToldTexts.{refused_some}
-use Rattle.track_prove.specs.declared.preparing.Given.{Given}
-use Rattle.track_prove.specs.declared.preparing.Given.TheVariants as given
-use Rattle.track_prove.specs.declared.telling.Report.{Report}
-use Rattle.track_prove.specs.declared.telling.Report.TheVariants.{Refused}
+use Rattle.track_prove.specs.declared.inputs.Given.{Given}
+use Rattle.track_prove.specs.declared.inputs.Given.TheVariants as given
+use Rattle.track_prove.specs.declared.report.Report.{Report}
+use Rattle.track_prove.specs.declared.report.Report.TheVariants.{Refused}
 use Rattle.track_prove.specs.Proving.{ProveEnds}
 use Rattle.track_prove.specs.Verifying.{ProofJob, IsProofJob, ProofInput, proof_input_of, VerifyEnds}
 use Rattle.track_prove.specs.Headline.{IsToldBy, IsStopped, IsTheOnly, IsSafeLog, IsSafeProof, Proves, Verifies}

@@ -17,10 +17,10 @@ use Rattle.track_input.specs.Words.{LogNames, ProofNames}
 use Rattle.track_log.specs.declared.refusal.LogRefusal.{LogRefusal}
 use Rattle.track_log.specs.LogJob.{LogJob, IsLogJob, LogInput, TextsRead, input_of, read_of_lists}
 use Rattle.track_log.specs.Refused.{refused_text}
-use Rattle.track_prove.specs.declared.telling.Report.{Report}
-use Rattle.track_prove.specs.declared.telling.Report.TheVariants.{Refused, Text}
-use Rattle.track_prove.specs.declared.preparing.Given.{Given}
-use Rattle.track_prove.specs.declared.preparing.Given.TheVariants as given
+use Rattle.track_prove.specs.declared.report.Report.{Report}
+use Rattle.track_prove.specs.declared.report.Report.TheVariants.{Refused, Text}
+use Rattle.track_prove.specs.declared.inputs.Given.{Given}
+use Rattle.track_prove.specs.declared.inputs.Given.TheVariants as given
 use Rattle.track_prove.specs.Proving.{ProveEnds}
 use Rattle.track_prove.specs.Verifying.{ProofJob, IsProofJob, ProofTexts, ProofInput, read_with_proof}
 use Rattle.track_prove.specs.Verifying.{proof_input_of_read, proof_input_of, VerifyEnds}

@@ -12,8 +12,8 @@ use Rattle.log_run.specs.States.{LogState, with_line}
 use Rattle.log_run.specs.Fits.{LineFits}
 use Rattle.log_run.specs.Laws.{IsValidState}
 use Rattle.log_run.specs.Motions.{moved_in, IsCertified, IsJudged, IsClearWhereMoved}
-use Rattle.track_prove.specs.declared.taking.Taken.{Taken}
-use Rattle.track_prove.specs.declared.taking.Taken.TheVariants.{Fits, Unfit, Bad}
+use Rattle.track_prove.specs.declared.taken_lines.Taken.{Taken}
+use Rattle.track_prove.specs.declared.taken_lines.Taken.TheVariants.{Fits, Unfit, Bad}
 use Rattle.track_prove.specs.Proving.{IsProofOf}
 
 -- A line fits, and nothing is against it; or it does not fit; or it fits, and a verdict is

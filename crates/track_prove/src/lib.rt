@@ -1,12 +1,12 @@
 //! Proofs of logs: the command that writes one, and the command that tests one, whoever wrote it.
 #![tactic(auto)]
 
+mod inputs;
 pub mod laws;
-mod preparing;
-mod proving;
-mod taking;
-mod telling;
-mod verifying;
+mod prove_command;
+mod report;
+mod taken_lines;
+mod verify_command;
 
-pub use proving::prove;
-pub use verifying::verify;
+pub use prove_command::prove;
+pub use verify_command::verify;

@@ -1,8 +1,8 @@
 //! The meshes of a log, made again from the mesh that it begins with and its lines alone, and stored as they were saved.
 #![tactic(auto)]
 
+mod command;
 pub mod laws;
-mod replaying;
-mod storing;
+mod mesh_files;
 
-pub use replaying::replay;
+pub use command::replay;

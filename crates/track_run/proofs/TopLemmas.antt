@@ -26,8 +26,8 @@ use Rattle.track_input.specs.declared.command.Command.TheVariants as command
 use Rattle.track_input.specs.Taken.{IsReading}
 use Rattle.track_input.specs.Commands.{IsReadExactly}
 use Rattle.track_input.specs.Named.{named_by, IsInLimits}
-use Rattle.track_input.specs.declared.reading.Ready.{Ready}
-use Rattle.track_input.specs.declared.reading.Ready.TheVariants as ready
+use Rattle.track_input.specs.declared.inputs.Ready.{Ready}
+use Rattle.track_input.specs.declared.inputs.Ready.TheVariants as ready
 use Rattle.track_input.specs.Job.{Job, IsJob, Input, input_of, mesh_of_job, mesh_of_lists, met_first}
 use Rattle.track_input.specs.Reading.{Prepares, IsReady, given, input_by}
 use Rattle.track_input.proofs.Sources.{some_source}

@@ -2,9 +2,9 @@
 #![tactic(auto)]
 
 #[cfg(test)]
-mod ends;
+mod arguments;
 #[cfg(test)]
-mod readings;
+mod ends;
 #[cfg(test)]
 mod runs;
 #[cfg(test)]

@@ -1,9 +1,9 @@
 //! A generated job is made, run over sides that only count, and summed up.
 #![tactic(auto)]
 
+mod command;
+mod counted_run;
 pub mod laws;
-mod running;
-mod summing;
-mod trying;
+mod summary_text;
 
-pub use trying::try_cubes;
+pub use command::try_cubes;

@@ -8,8 +8,10 @@ ghost use Rattle.std.proofs.Common.{arith};
 use crate::exact_desk::ExactDesk;
 use crate::life_line::LifeLine;
 use crate::names::{Names, Work};
+use crate::progress_lines::{
+    LONG, ended_lines, is_long, lines_of, reading, storing, taking, working,
+};
 use crate::rounding::rounded;
-use crate::tellings::{LONG, ended_lines, is_long, lines_of, reading, storing, taking, working};
 use crate::texts::{Text, Texts};
 use outside_io::{Desk, FetchFault, FileDesk, StoreFault};
 use refusal_sentences::{overwriting_warning, plain};

@@ -1,7 +1,7 @@
 use Rattle.std.proofs.Common.{◌≡◌, ℕ, ◌<◌, length, Some}
 use Rattle.std.specs.Prelude.{slice_get}
 use Rattle.box_tree.specs.declared.LabelledBox.{LabelledBox}
-use Rattle.pair_paths.specs.declared.moving.MovingFace.{MovingFace}
+use Rattle.pair_paths.specs.declared.moving_parts.MovingFace.{MovingFace}
 use Rattle.pair_paths.specs.FaceBoxes.{IsFaceBoxIn}
 use Rattle.pair_paths.proofs.frame_boxes.boxes_in.Given as goal
 

@@ -3,7 +3,7 @@ use Rattle.outside_io.proofs.Written.{appended-nil}
 use Rattle.track_engine.specs.Effects.{Effect}
 use Rattle.track_engine.specs.Engines.{state_in}
 use Rattle.track_engine.specs.Parts.{Writes}
-use Rattle.track_held.specs.declared.editing_given.ToldAnswer.{ToldAnswer}
+use Rattle.track_held.specs.declared.given_edits.ToldAnswer.{ToldAnswer}
 use Rattle.track_held.specs.Folding.{untold}
 use Rattle.track_held.specs.Held.{engine_in, log_in}
 use Rattle.track_held.proofs.FoldChosen.{fold_is_group, fold_tells_group, no_fold_is_nothing}

@@ -1,6 +1,0 @@
-use Rattle.motion_test.specs.Pairs.{positions_of}
-use Rattle.edit_check.proofs.Exact.{is_closes}
-use Rattle.edit_check.proofs.failing.pair_closes.Goals as goal
-
-pub returns : goal.returns
-returns c = is_closes c.closes.result c.args.depth (positions_of c.args.p.now.start) (positions_of c.args.p.now.end) c.closes.ensures.exact

@@ -1,7 +1,0 @@
-use Rattle.std.proofs.Common.{sym}
-use Rattle.edit_collapse.specs.Alike.{met_none}
-use Rattle.edit_collapse.proofs.Unlike.{none_opposite}
-use Rattle.edit_collapse.proofs.cancelling.next_two.Goals as goal
-
-pub returns : goal.returns
-returns c = sym (none_opposite met_none c.args.faces.now (c.in_ok-may.ensures c.if-may.false))

@@ -1,4 +1,0 @@
-use Rattle.motion_test.proofs.halving.+opens_at.Given as goal
-
-abbrev pub decreases-opens_at : goal.decreases-opens_at
-decreases-opens_at l = l.depth

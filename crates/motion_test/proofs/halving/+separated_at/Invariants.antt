@@ -1,4 +1,0 @@
-use Rattle.motion_test.proofs.halving.+separated_at.Given as goal
-
-abbrev pub decreases-separated_at : goal.decreases-separated_at
-decreases-separated_at l = l.depth

@@ -1,4 +1,0 @@
-use Rattle.neighbour_list.proofs.serving.are_narrow.Goals as goal
-
-pub returns : goal.returns
-returns c = λ t. record { box = c.united.result; narrow = c.is_narrow.ensures t; first = c.united.ensures.first; second = c.united.ensures.second }

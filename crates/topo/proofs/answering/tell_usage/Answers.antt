@@ -1,6 +1,0 @@
-use Rattle.topo.specs.Texts.{usage}
-use Rattle.topo.proofs.answering.tell_usage.Goals as goal
-
-pub returns : goal.returns
-unfolding usage
-returns g c = c.tell.ensures

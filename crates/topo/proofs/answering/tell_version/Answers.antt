@@ -1,6 +1,0 @@
-use Rattle.topo.specs.Texts.{version_line}
-use Rattle.topo.proofs.answering.tell_version.Goals as goal
-
-pub returns : goal.returns
-unfolding version_line
-returns g c = c.tell.ensures

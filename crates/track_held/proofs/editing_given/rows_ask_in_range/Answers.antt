@@ -1,5 +1,0 @@
-use Rattle.track_held.proofs.EditRanges.{rows_in_range, rows_each}
-use Rattle.track_held.proofs.editing_given.rows_ask_in_range.Goals as goal
-
-pub returns : goal.returns
-returns c = record { ranges = rows_in_range; each = rows_each }
