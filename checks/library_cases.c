@@ -543,15 +543,16 @@ static void numbered_anew(void)
     is("no tracker", topo_renumber(&t), TOPO_EMPTY);
     is("a tetrahedron", topo_new(four, 4, sides, 4, &t, &fault), TOPO_DONE);
     is("three splits", (uint32_t)(done(TOPO_SPLIT, 1, 2, 0, 0, 5, 0, 20, 0, 0) && done(TOPO_SPLIT, 3, 4, 0, 0, 6, 0, 0, 20, 20) && done(TOPO_SPLIT, 2, 3, 0, 0, 7, 0, 20, 20, 0)), 1);
-    is("and a collapse, so that there is no vertex 5", (uint32_t)done(TOPO_COLLAPSED, 1, 5, 0, 0, 1, 0, 10, 0, 0), 1);
-    is("vertex 7 is solid", topo_solid(&t, 7, &fault), TOPO_DONE);
-    is("vertex 6 is to move", topo_shift(&t, 6, 0, 0, 1, &fault), TOPO_DONE);
+    is("and a collapse, so that there is no vertex 6", (uint32_t)done(TOPO_COLLAPSED, 4, 6, 0, 0, 4, 0, 0, 10, 30), 1);
+    is("and one split more", (uint32_t)done(TOPO_SPLIT, 1, 3, 0, 0, 8, 0, 0, 20, 0), 1);
+    is("vertex 8 is solid", topo_solid(&t, 8, &fault), TOPO_DONE);
+    is("vertex 7 is to move", topo_shift(&t, 7, 0, 0, 1, &fault), TOPO_DONE);
     is("a group", topo_open(&t, &fault), TOPO_DONE);
     is("has to be closed first", topo_renumber(&t), TOPO_GROUPED);
     is("as it is", topo_close(&t, &kept, &fault), TOPO_DONE);
     is("its vertices", topo_points(&t, was, 8, &count), TOPO_DONE);
     is("its faces", topo_faces(&t, had, 16, &faces), TOPO_DONE);
-    is("are six and eight, of ids up to 7 and more", (uint32_t)(count == 6 && faces == 8 && was[5].id == 7 && had[7].id > 8), 1);
+    is("are seven and ten, of ids up to 8 and more", (uint32_t)(count == 7 && faces == 10 && was[6].id == 8 && had[9].id > 10), 1);
     is("they are numbered anew", topo_renumber(&t), TOPO_DONE);
     is("its vertices", topo_points(&t, row, 8, &size), TOPO_DONE);
     is("are as many", (uint32_t)(size == count), 1);
@@ -562,11 +563,11 @@ static void numbered_anew(void)
     for (k = 0; k < faces; ++k)
         is("in the same order, of the same corners", (uint32_t)(face[k].id == k + 1 && face[k].a == place_of(was, count, had[k].a) && face[k].b == place_of(was, count, had[k].b) && face[k].c == place_of(was, count, had[k].c)), 1);
     is("its solid vertex", topo_solids(&t, solids, 8, &size), TOPO_DONE);
-    is("is the last", (uint32_t)(size == 1 && solids[0] == 6), 1);
+    is("is the last", (uint32_t)(size == 1 && solids[0] == 7), 1);
     is("its numbers", topo_counts(&t, &counted), TOPO_DONE);
-    is("go on behind them, and no line is told", (uint32_t)(counted.next_vertex == 7 && counted.next_face == 9 && counted.lines == 0 && counted.steps == 0), 1);
+    is("go on behind them, and no line is told", (uint32_t)(counted.next_vertex == 8 && counted.next_face == 11 && counted.lines == 0 && counted.steps == 0), 1);
     is("a step", topo_step(&t, &way, &fault), TOPO_DONE);
-    is("moves the vertex that was to move", (uint32_t)tells("step 1\nmove 5 0 0 1\nmoved whole\n"), 1);
+    is("moves the vertex that was to move", (uint32_t)tells("step 1\nmove 6 0 0 1\nmoved whole\n"), 1);
     topo_free(&t);
 }
 
