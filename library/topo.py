@@ -247,6 +247,17 @@ def edit_row(k, row):
     return (kind, *ids, *(0,) * (4 - width))
 
 
+def number_table(rows, columns):
+    """Rows of so many finite numbers as a table of numpy's; None where numpy is not there, or they are no such rows."""
+    if numpy is None:
+        return None
+    try:
+        table = numpy.asarray(rows, numpy.float64)
+    except (TypeError, ValueError, OverflowError):
+        return None
+    return table if table.ndim == 2 and table.shape[1] == columns and table.size and numpy.isfinite(table).all() else None
+
+
 class Tracker:
     """A tracker of a closed surface that does not meet itself: `points`, and faces of three numbers of points from 1; or, in the place of both, what
     `leave` told of another, which goes on with its ids. Freed at the end of a `with` block, or by `free`."""
@@ -334,13 +345,8 @@ class Tracker:
 
     def grid_table(self, rows, origin):
         """The same by columns, where numpy is there and nothing is to be refused; and else None."""
-        if numpy is None:
-            return None
-        try:
-            table = numpy.asarray(rows, numpy.float64)
-        except (TypeError, ValueError, OverflowError):
-            return None
-        if table.ndim != 2 or table.shape[1] != 3 or table.size == 0 or not numpy.isfinite(table).all():
+        table = number_table(rows, 3)
+        if table is None:
             return None
         table = table - numpy.array(origin)
         near = numpy.rint(table / self.unit)
@@ -433,13 +439,8 @@ class Tracker:
 
     def band_table(self, bands):
         """The same by columns, where numpy is there and nothing is to be refused; and else None."""
-        if numpy is None:
-            return None
-        try:
-            table = numpy.asarray(bands, numpy.float64)
-        except (TypeError, ValueError, OverflowError):
-            return None
-        if table.ndim != 2 or table.shape[1] != 2 or table.size == 0 or not numpy.isfinite(table).all() or (table < 0).any():
+        table = number_table(bands, 2)
+        if table is None or (table < 0).any():
             return None
         near = numpy.rint(table / self.unit)
         return near.astype(numpy.int64) if (near <= LENGTH_MAX).all() else None
