@@ -1,0 +1,1 @@
+//! Words for contracts of calls that change what their parameters refer to. It has no code.
