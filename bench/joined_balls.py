@@ -1,5 +1,5 @@
 #!/usr/bin/env python3
-"""Joins pairs of balls at random by `zip`, and tries both ways of `docs/CONNECT.md` to make the surface a manifold again.
+"""Joins pairs of balls at random by `zip`, and tries both ways of `docs/CONNECT.md` to a manifold again.
 
 Each ball is an octahedron whose sides are cut in six, put on a sphere: 288 faces, edges of some 260. The one has radius 1,000, the other
 700 to 1,200; the gap is 40 to 200, in a direction at random. One line is written for each pair: what `zip 300`, `collapse 130` and `pinch`

@@ -8,9 +8,12 @@ each name that docs/PROVED.md cites stands in the crates; each public definition
 document names or links is there; what docs/ARCHITECTURE.md and docs/CRATES.md count, files on a way and wrong edits, is as many;
 checks/README.md and bench/README.md have a line for each script, with the first line of its head. Each crate but those of tests has a
 README.md: the names that it hands up are public in its sources, and its example stands, line by line, in the file that it names.
+
+Each number in a page is compared with the code, or is of a kind that checks/document_numbers.py tells; what is measured stands on the pages
+whose subject it is. All pages but the crates' have at most 35,000 words (`--words` prints them by page, and each sentence of more than forty),
+and no line of text has more than 139 columns.
 """
 
-import argparse
 import ast
 import os
 import re
@@ -20,6 +23,8 @@ import sys
 import tempfile
 import textwrap
 
+import document_numbers
+from calling import reader_of, words_of
 from worked_cases import Case
 
 ROOT = os.path.dirname(os.path.dirname(os.path.abspath(__file__)))
@@ -27,6 +32,7 @@ sys.path.insert(0, os.path.join(ROOT, "docs"))
 from crates import page as crates_page  # noqa: E402
 
 TOPO = os.path.join(ROOT, "topo")
+WORDS_MOST, COLUMNS_MOST = 35_000, 139
 
 
 def text_of(name):
@@ -75,6 +81,63 @@ def shown_logs(text):
             shown.append((command, lines))
             command = None
     return shown
+
+
+def pages():
+    """Each page of the repository but those of crates and the notices, which are others' texts."""
+    for folder, folders, files in os.walk(ROOT):
+        folders[:] = sorted(it for it in folders if it not in ("crates", ".git", "out"))
+        for name in sorted(it for it in files if it.endswith(".md") and it != "NOTICES.md"):
+            yield os.path.relpath(os.path.join(folder, name), ROOT)
+
+
+def long_sentences(text, most=40):
+    """The sentences of a page with more words than that."""
+    for part in document_numbers.parts_of(text):
+        plain = re.sub(r"`[^`]*`", lambda code: re.sub("[.?!]", "", code[0]), re.sub(r"\]\([^)]*\)", "]", part))
+        for cell in plain.strip("|").split("|"):
+            for sentence in re.split(r"(?<=[.?!])[)\"*]*\s+", cell):
+                if sum(bool(re.search(r"\w", word)) for word in sentence.split()) > most:
+                    yield sentence.strip()
+
+
+def print_words():
+    """The words of each page, all of them, and the sentences that are long."""
+    counts = {page: document_numbers.words_in(text_of(page)) for page in pages()}
+    for page, count in counts.items():
+        print(f"{count:6} {page}")
+    print(f"{sum(counts.values()):6} words of at most {WORDS_MOST}")
+    for page in counts:
+        for sentence in long_sentences(text_of(page)):
+            print(f"long: {page}: {sentence[:100]}")
+
+
+def code_faults(library):
+    """The codes that docs/LIBRARY.md has otherwise than library/topo.h, and calls that its table has not, or has twice."""
+    header = text_of("library/topo.h")
+    codes = re.findall(r"(?m)^    (TOPO_\w+) = (\d+),?\s", header.partition("/* What a call answers.")[2].partition("};")[0])
+    told = [(name, number) for number, name in re.findall(r"(?m)^\| (\d+) `(TOPO_\w+)` \|", library)]
+    if told != codes:
+        yield "its codes are others"
+    calls = re.findall(r"(?m)^(?:uint32_t|void) (topo_\w+)\(", header)
+    table = library.partition("## Use it")[2].partition("\n\nDirectives,")[0]
+    named = [name for row in re.findall(r"(?m)^\| (`topo_.*?) \|", table) for name in re.findall(r"`(topo_\w+)`", row)]
+    if sorted(named) != sorted(calls):
+        yield f"its calls are others: {' '.join(sorted(set(named) ^ set(calls)))}"
+
+
+def droplet_faults():
+    """What examples/droplet/README.md shows that its run does not give."""
+    with tempfile.TemporaryDirectory() as folder:
+        for part in ("examples/droplet", "docs/pictures"):
+            shutil.copytree(os.path.join(ROOT, part), os.path.join(folder, part))
+        shutil.copy(os.path.join(ROOT, "examples/replay.py"), os.path.join(folder, "examples"))
+        words = [sys.executable, os.path.join(folder, "examples/droplet/run.py"), TOPO]
+        told = subprocess.run(words, stdout=subprocess.PIPE, stderr=subprocess.DEVNULL, timeout=600).stdout.decode()
+        log = open(os.path.join(folder, "examples/droplet/log.txt")).read()
+    there = set(told.splitlines()) | set(log.splitlines())
+    for block in re.findall(r"(?m)(?:^    .*\n)+", text_of("examples/droplet/README.md"))[1:]:
+        yield from (line.strip() for line in block.splitlines() if line.strip() not in there | {".."})
 
 
 def is_part(part, whole):
@@ -197,10 +260,11 @@ def heads_of(folder):
 
 def main():
     global TOPO
-    reader = argparse.ArgumentParser(description=__doc__.splitlines()[0])
-    reader.add_argument("program", nargs="?", default=TOPO, metavar="PROGRAM", help="the built program; ./topo, which is built first where need be, if left out")
-    TOPO = os.path.abspath(reader.parse_args().program)
-    subprocess.run([TOPO, "--version"], check=True, stdout=subprocess.DEVNULL)
+    reader = reader_of(__doc__)
+    reader.add_argument("--words", action="store_true", help="print how many words each page has, and which sentences are long, and check nothing")
+    if "--words" in sys.argv[1:]:
+        return print_words()
+    TOPO = words_of(reader).program
     readme, formats = text_of("README.md"), text_of("docs/FORMATS.md")
     steps = text_of("crates/topo/data/steps.txt")
     checks = []
@@ -241,7 +305,7 @@ def main():
     for folder in ("bench", "checks"):
         heads, listed = list(heads_of(folder)), text_of(f"{folder}/README.md").splitlines()
         checks.append((f"{folder}/README.md has each script", heads == [line for line in listed if line.startswith("- `")]))
-    for name in ["README.md", "CONTRIBUTING.md", "CHANGELOG.md", "bench/README.md", "checks/README.md", *(f"docs/{it}" for it in sorted(os.listdir(os.path.join(ROOT, "docs"))) if it.endswith(".md"))]:
+    for name in pages():
         named = re.findall(r"`((?:crates|docs|checks|bench|examples|\.ci)/[\w./*-]+)`", text_of(name))
         lost = [it for it in named if "*" not in it and not os.path.exists(os.path.join(ROOT, it))]
         checks.append((f"each file that {name} names is there {' '.join(lost)}".rstrip(), not lost))
@@ -258,12 +322,31 @@ def main():
     for crate, edits, further in re.findall(r"(?m)^\| \[`(\w+)`\].*\| (\d+) \| (\d+) \|$", table):
         there = tuple(edits_of(crate, folder) for folder in ("must-fail", "must-fail-more"))
         checks.append((f"docs/CRATES.md counts the edits of {crate}", there == (int(edits), int(further))))
+    for name in pages():
+        faults = list(document_numbers.measured(text_of(name))) if name not in document_numbers.MEASURED else []
+        if name not in document_numbers.MEASURED + document_numbers.WHOLE:
+            faults += document_numbers.unchecked_numbers(name, text_of(name), told)
+        checks.append((f"the numbers of {name} are those of the code {'; '.join(faults)}".rstrip(), not faults))
+        wide = [line[:40] for line in text_of(name).splitlines() if len(line) > COLUMNS_MOST and not line.startswith(("|", "    "))]
+        checks.append((f"no line of text of {name} has more than {COLUMNS_MOST} columns {'; '.join(wide)}".rstrip(), not wide))
+    count = sum(document_numbers.words_in(text_of(name)) for name in pages())
+    checks.append((f"all pages have {count} words, at most {WORDS_MOST}", count <= WORDS_MOST))
+    faults = list(code_faults(text_of("docs/LIBRARY.md")))
+    checks.append((f"docs/LIBRARY.md has the codes and calls of library/topo.h {'; '.join(faults)}".rstrip(), not faults))
+    summary = re.search(r"(?m)^    try \d+ \d+\n(?:    .*\n)+", text_of("docs/EXAMPLES.md"))[0]
+    words = ["try", *summary.split()[1:3]]
+    ran = subprocess.run([TOPO, *words], stdout=subprocess.PIPE, timeout=60).stdout.decode()
+    checks.append(("docs/EXAMPLES.md shows a summary of a try", textwrap.dedent(summary) == ran))
+    faults = list(document_numbers.job_of_cubes_faults(formats, ran))
+    checks.append((f"docs/FORMATS.md has the job of cubes {'; '.join(faults)}".rstrip(), not faults))
+    faults = list(droplet_faults())
+    checks.append((f"examples/droplet/README.md shows lines of its run {'; '.join(faults)}".rstrip(), not faults))
     failed = sum(not good for _, good in checks)
     for what, good in checks:
         print(("ok     " if good else "FAILED ") + what)
     print(f"{len(checks) - failed} passed, {failed} failed")
-    sys.exit(1 if failed else 0)
+    return 1 if failed else 0
 
 
 if __name__ == "__main__":
-    main()
+    sys.exit(main())
