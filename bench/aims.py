@@ -182,7 +182,7 @@ def sizes(programs):
 
 def main():
     reader = reader_of(__doc__)
-    reader.add_argument("other", nargs="?", metavar="OTHER", help="a second program with the same command line")
+    reader.add_argument("--other", metavar="OTHER", help="a second program with the same command line")
     programs = Programs(words_of(reader))
     print("| job | seconds | other program | ratio | aim |\n|---|---|---|---|---|", flush=True)
     for part in (steps_and_rest, whole_motions, thrown, halved, passes, refined, sizes):

@@ -8,6 +8,9 @@ import subprocess
 import sys
 
 ROOT = os.path.dirname(os.path.dirname(os.path.abspath(__file__)))
+sys.path.append(os.path.join(ROOT, "checks"))
+from calling import say_what_is_built  # noqa: E402
+
 TOPO = os.path.join(ROOT, "topo")
 CORNERS = [(0, 0, 0), (40, 0, 0), (40, 40, 0), (0, 40, 0), (0, 0, 40), (40, 0, 40), (40, 40, 40), (0, 40, 40)]
 QUADS = [(1, 4, 3, 2), (5, 6, 7, 8), (1, 2, 6, 5), (2, 3, 7, 6), (3, 4, 8, 7), (4, 1, 5, 8)]
@@ -44,6 +47,7 @@ def words_of(reader):
     """The words of a call. The program is built where that is not done."""
     words = reader.parse_args()
     words.program = os.path.abspath(words.program)
+    say_what_is_built(words.program)
     words.sized = lambda *sides: tuple(max(4, n // 10) for n in sides) if getattr(words, "small", False) else sides
     subprocess.run([words.program, "--version"], check=True, stdout=subprocess.DEVNULL)
     return words

@@ -1,10 +1,9 @@
 #!/usr/bin/env python3
 """Makes the tarball of `dist/make` in a temporary folder, and tries each part of it as a user would who has no toolchain.
 
-    checks/dist.py [PROGRAM LIBRARY_FOLDER]
+    checks/dist.py [PROGRAM] [--library FOLDER]
 
-PROGRAM is the built program and LIBRARY_FOLDER has libtopo.a and libtopo.so; where they are left out, they are where `./topo` and `library/build` put
-them. Two calls have to make the same tarball. The program runs with an empty environment, from where it is unpacked, from where it is installed, and, for
+Two calls have to make the same tarball. The program runs with an empty environment, from where it is unpacked, from where it is installed, and, for
 root, in a folder made the root of the system that has the C library alone, and with an empty folder over /opt. A C program is built with the flags of
 pkg-config and by CMake, each with the archive and with the shared library; the wheel is installed into a new environment of Python, and an example is run;
 the manual page is shown; and the completions are asked. What needs a tool that is not there is skipped, and that is said. The last line counts.
@@ -16,6 +15,8 @@ import shutil
 import subprocess
 import sys
 import tempfile
+
+from calling import TOPO, add_library, reader_of, words_of
 
 ROOT = os.path.dirname(os.path.dirname(os.path.abspath(__file__)))
 MESH, STEPS = "v 0 0 0\nv 40 0 0\nv 0 40 0\nv 0 0 40\nf 1 3 2\nf 1 2 4\nf 2 3 4\nf 1 4 3\n", "shift all 1 2 3\nstep\nsplit 45\nsave\n"
@@ -201,7 +202,10 @@ def completions(prefix, commands):
 
 
 def main():
-    words = ["--program", os.path.abspath(sys.argv[1]), "--library", os.path.abspath(sys.argv[2])] if len(sys.argv) == 3 else []
+    reader = reader_of(__doc__)
+    add_library(reader)
+    given = words_of(reader)
+    words = ["--library", given.library, *([] if given.program == TOPO else ["--program", given.program])]
     with tempfile.TemporaryDirectory() as work:
         found = made(words, work)
         if found:

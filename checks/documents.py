@@ -7,7 +7,8 @@ before it, run anew; the proof in docs/CERTIFICATES.md is that of a worked case;
 each name that docs/PROVED.md cites stands in the crates; each public definition has a comment in the line before it; each file that a
 document names or links is there; what docs/ARCHITECTURE.md and docs/CRATES.md count, files on a way and wrong edits, is as many;
 checks/README.md and bench/README.md have a line for each script, with the first line of its head. Each crate but those of tests has a
-README.md: the names that it hands up are public in its sources, and its example stands, line by line, in the file that it names.
+README.md: the names that it hands up are public in its sources, and its example stands, line by line, in the file that it names; where it
+has no code, the page names its definitions.
 
 Each number in a page is compared with the code, or is of a kind that checks/document_numbers.py tells; what is measured stands on the pages
 whose subject it is. All pages but the crates' have at most 35,000 words (`--words` prints them by page, and each sentence of more than forty),
@@ -195,6 +196,18 @@ def stands_in(lines, path):
     return any(textwrap.dedent("\n".join(whole[at : at + len(lines)])).split("\n") == lines for at in range(len(whole) - len(lines) + 1))
 
 
+def has_code(crate):
+    return any(re.search(r"(?m)^(?!\s*//)\s*\S", text) for text in sources_of(crate).values())
+
+
+def unnamed_words(crate):
+    """The public definitions of a crate that its README.md does not name."""
+    page = text_of(f"crates/{crate}/README.md")
+    files = [os.path.join(top, file) for top, _, names in os.walk(os.path.join(ROOT, "crates", crate, "specs")) for file in names if file != "Lib.antt"]
+    words = [word for path in files for word in re.findall(r"(?m)^(?:abbrev |unfoldable )?pub (?:record |data )?(\w+) ", open(path).read())]
+    return [word for word in words if not re.search(rf"`[^`]*\b{word}\b[^`]*`", page)]
+
+
 def readme_faults(crate):
     """What is wrong with the README.md of a crate."""
     path = os.path.join("crates", crate, "README.md")
@@ -206,6 +219,8 @@ def readme_faults(crate):
         faults.append("has another title")
     if len(lines) > 16 or max(len(line) for line in lines) > 139:
         faults.append("is long or wide")
+    if not has_code(crate):
+        return faults + [f"does not name `{word}`" for word in unnamed_words(crate)]
     parts = dict(re.findall(r"(?ms)^- \*\*(.*?):?\*\*(.*?)(?=^- |^$)", "\n".join(lines) + "\n"))
     if not parts.get("Proved"):
         faults.append("does not say what is proved")
@@ -258,6 +273,14 @@ def heads_of(folder):
             yield f"- `{name}`: {ast.get_docstring(ast.parse(text_of(f'{folder}/{name}'))).splitlines()[0]}"
 
 
+def readers_of_their_own(folder):
+    """The scripts of a folder that are not called by a reader of words which has their help."""
+    for name in sorted(it for it in os.listdir(os.path.join(ROOT, folder)) if it.endswith(".py")):
+        text = text_of(f"{folder}/{name}")
+        if "__main__" in text and (re.search(r"sys\.argv\[\d", text) or not re.search(r"\b(reader_of|library_of|words_of\w*|ArgumentParser)\(", text)):
+            yield name
+
+
 def main():
     global TOPO
     reader = reader_of(__doc__)
@@ -304,6 +327,8 @@ def main():
             checks.append((f"crates/{crate}/README.md is true {'; '.join(faults)}".rstrip(), not faults))
     for folder in ("bench", "checks"):
         heads, listed = list(heads_of(folder)), text_of(f"{folder}/README.md").splitlines()
+        others = list(readers_of_their_own(folder))
+        checks.append((f"each script of {folder} has its words by argparse {' '.join(others)}".rstrip(), not others))
         checks.append((f"{folder}/README.md has each script", heads == [line for line in listed if line.startswith("- `")]))
     for name in pages():
         named = re.findall(r"`((?:crates|docs|checks|bench|examples|\.ci)/[\w./*-]+)`", text_of(name))

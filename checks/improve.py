@@ -1,10 +1,10 @@
 #!/usr/bin/env python3
 """Compiles the small cases of library/improve.hpp and library/merge.hpp without warnings, and runs them.
 
-    checks/improve.py LIBRARY_FOLDER
+    checks/improve.py [--library FOLDER]
 
-LIBRARY_FOLDER has libtopo.a. Each guard is tried by a mesh at which it alone holds an edit back; balls and slabs have to become one body
-with the Euler number that is theirs and no non-manifold edge. Exit status 0 where all hold.
+Each guard is tried by a mesh at which it alone holds an edit back; balls and slabs have to become one body with the Euler number that is
+theirs and no non-manifold edge. Exit status 0 where all hold.
 """
 
 import os
@@ -13,11 +13,13 @@ import subprocess
 import sys
 import tempfile
 
+from calling import library_of
+
 ROOT = os.path.dirname(os.path.dirname(os.path.abspath(__file__)))
 
 
 def main():
-    archive = os.path.join(sys.argv[1], "libtopo.a")
+    archive = os.path.join(library_of(__doc__), "libtopo.a")
     found = {os.path.realpath(path): name for name in ("c++", "g++", "clang++") if (path := shutil.which(name))}
     failed = not found
     folders = [flag for name in ("library", "examples/flows") for flag in ("-I", os.path.join(ROOT, name))]

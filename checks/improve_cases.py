@@ -1,9 +1,9 @@
 #!/usr/bin/env python3
 """Worked cases of `library/improve.py`: each guard alone.
 
-    checks/improve_cases.py [LIBRARY]
+    checks/improve_cases.py [--library FOLDER]
 
-LIBRARY is library/out/libtopo.so, if it is left out. A figure that a guard looks at is measured beside it, by a tracker that makes the
+A figure that a guard looks at is measured beside it, by a tracker that makes the
 edit: the guard has to let the edit pass where its limit is a little above the figure, and to hold it back where it is a little below.
 Where numpy is there, all is done once without it and once with it. Prints how many cases hold, or which do not.
 """
@@ -20,8 +20,9 @@ sys.path.insert(0, os.path.join(ROOT, "library"))
 sys.dont_write_bytecode = True
 import improve  # noqa: E402
 import topo  # noqa: E402
+from calling import library_of  # noqa: E402
 
-LIBRARY = sys.argv[1] if len(sys.argv) > 1 else None
+LIBRARY = None
 H = 1000  # the mean edge, in units of the grid
 # nothing is wanted, and nothing held back
 OFF = dict(min_edge_length=0, max_edge_length=1e4, max_volume_change=1e9, min_triangle_angle=0, max_triangle_angle=180,
@@ -458,6 +459,8 @@ def all_cases():
 
 
 def main():
+    global LIBRARY
+    LIBRARY = os.path.join(library_of(__doc__), "libtopo.so")
     found = improve.numpy
     for numpy in (None, found) if found else (None,):
         improve.numpy = topo.numpy = numpy

@@ -1,11 +1,12 @@
 #!/usr/bin/env python3
 """Worked cases of `library/topo.py`: what it refuses, what it requests and reads by ids.
 
+    checks/library_cases.py [--library FOLDER]
+
 Where numpy is there, all is done once without it and once with it, and then columns are given as its arrays. Prints how many cases hold,
 or which do not.
 """
 
-import argparse
 import os
 import sys
 import threading
@@ -14,10 +15,9 @@ ROOT = os.path.dirname(os.path.dirname(os.path.abspath(__file__)))
 sys.path.insert(0, os.path.join(ROOT, "library"))
 sys.dont_write_bytecode = True
 import topo  # noqa: E402
+from calling import library_of  # noqa: E402
 
-reader = argparse.ArgumentParser(description=__doc__, formatter_class=argparse.RawDescriptionHelpFormatter)
-reader.add_argument("library", nargs="?", metavar="LIBRARY", help="the shared library; library/out/libtopo.so if left out")
-LIBRARY = reader.parse_args().library
+LIBRARY = os.path.join(library_of(__doc__), "libtopo.so")
 POINTS = [(0, 0, 0), (4, 0, 0), (0, 4, 0), (0, 0, 4)]
 FACES = [(1, 3, 2), (1, 2, 4), (2, 3, 4), (1, 4, 3)]
 held, failed = 0, []

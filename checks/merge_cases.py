@@ -1,9 +1,9 @@
 #!/usr/bin/env python3
 """Worked cases of `library/merge.py`: bodies that stand near become one, and non-manifold edges go.
 
-    checks/merge_cases.py [LIBRARY]
+    checks/merge_cases.py [--library FOLDER]
 
-LIBRARY is library/out/libtopo.so, if it is left out. What the surface is afterwards is counted here: bodies, the Euler number,
+What the surface is afterwards is counted here: bodies, the Euler number,
 non-manifold edges, and faces that are left between the bodies. Where numpy is there, all is done once without it and once with it.
 Prints how many cases hold, or which do not.
 """
@@ -20,9 +20,10 @@ sys.dont_write_bytecode = True
 import improve  # noqa: E402
 import merge  # noqa: E402
 import topo  # noqa: E402
+from calling import library_of  # noqa: E402
 from improve_cases import H, ball, edges_of, read, six_volume_of  # noqa: E402
 
-LIBRARY = sys.argv[1] if len(sys.argv) > 1 else None
+LIBRARY = None
 held, failed = 0, []
 
 
@@ -165,6 +166,8 @@ def mended():
 
 
 def main():
+    global LIBRARY
+    LIBRARY = os.path.join(library_of(__doc__), "libtopo.so")
     found = improve.numpy
     for numpy in (None, found) if found else (None,):
         improve.numpy = topo.numpy = merge.numpy = numpy

@@ -18,7 +18,7 @@ import subprocess
 import sys
 import tempfile
 
-from calling import ROOT, add_number, reader_of, words_of
+from calling import ROOT, add_library, add_number, reader_of, words_of
 from random_jobs import counted, mesh_of
 
 sys.path.insert(0, os.path.join(ROOT, "examples"))
@@ -133,7 +133,7 @@ def main():
     reader = reader_of(__doc__)
     add_number(reader, "count", 100, "so many callers")
     add_number(reader, "seed", 1, "the first is that of this number")
-    reader.add_argument("--library", metavar="FOLDER", default=os.path.join(ROOT, "library/out"), help="where libtopo.a and topo.h are (library/out if left out)")
+    add_library(reader)
     words = words_of(reader)
     program, seed, ran, bad, caught = words.program, words.seed, 0, 0, 0
     lines, tally = collections.Counter(), collections.Counter()

@@ -1,9 +1,9 @@
 #!/usr/bin/env python3
 """Whether `library/improve.py` and `merge.py` decide as the headers do: the logs have to be the same.
 
-    checks/twins.py [FOLDER]
+    checks/twins.py [--library FOLDER]
 
-FOLDER has libtopo.a and libtopo.so, and is library/out, if it is left out. `checks/twins.cpp` does each job through the headers, and this
+`checks/twins.cpp` does each job through the headers, and this
 script through the modules, with numpy too where that is there. It needs `c++`. Prints how many logs are the same, or which are not.
 """
 
@@ -13,13 +13,12 @@ import sys
 import tempfile
 
 ROOT = os.path.dirname(os.path.dirname(os.path.abspath(__file__)))
-FOLDER = os.path.abspath(sys.argv[1] if len(sys.argv) > 1 else os.path.join(ROOT, "library/out"))
-sys.argv[1:] = [os.path.join(FOLDER, "libtopo.so")]
 sys.path[:0] = [os.path.join(ROOT, "library"), os.path.join(ROOT, "checks")]
 sys.dont_write_bytecode = True
 import improve  # noqa: E402
 import merge  # noqa: E402
 import topo  # noqa: E402
+from calling import library_of  # noqa: E402
 from improve_cases import H, ball  # noqa: E402
 from merge_cases import slab  # noqa: E402
 
@@ -40,8 +39,8 @@ def jobs():
     yield "zipped balls", "mend", 1, pair(ball(4), (far + 100, 31, 17))
 
 
-def log_of(mode, rounds, points, faces):
-    with topo.Tracker(points, faces, library=sys.argv[1]) as surface:
+def log_of(library, mode, rounds, points, faces):
+    with topo.Tracker(points, faces, library=library) as surface:
         improver = improve.Improver(surface, improve.Improving(H))
         for _ in range(rounds):
             if mode == "flow":
@@ -61,17 +60,18 @@ def log_of(mode, rounds, points, faces):
 
 
 def main():
+    library = library_of(__doc__)
     found, same, other = improve.numpy, [], []
     with tempfile.TemporaryDirectory() as folder:
         driver = os.path.join(folder, "twins")
-        parts = os.path.join(ROOT, "checks/twins.cpp"), os.path.join(FOLDER, "libtopo.a")
+        parts = os.path.join(ROOT, "checks/twins.cpp"), os.path.join(library, "libtopo.a")
         subprocess.run(["c++", "-std=c++17", "-O1", "-I", os.path.join(ROOT, "library"), *parts, "-o", driver], check=True)
         for name, mode, rounds, (points, faces) in jobs():
             mesh = "".join("v %d %d %d\n" % p for p in points) + "".join("f %d %d %d\n" % f for f in faces)
             wanted = subprocess.run([driver, mode, str(rounds)], input=mesh.encode(), stdout=subprocess.PIPE, check=True).stdout.decode()
             for numpy in (None, found) if found else (None,):
                 improve.numpy = topo.numpy = merge.numpy = numpy
-                got = log_of(mode, rounds, points, faces)
+                got = log_of(os.path.join(library, "libtopo.so"), mode, rounds, points, faces)
                 (same if got == wanted and len(got) > 300 else other).append(f"{mode} of {name}{' with numpy' if numpy else ''}")
     print("".join(f"another log: {name}\n" for name in other) + f"{len(same)} logs are the same, {len(other)} are not")
     sys.exit(bool(other))
