@@ -285,7 +285,7 @@ def main():
     global TOPO
     reader = reader_of(__doc__)
     reader.add_argument("--words", action="store_true", help="print how many words each page has, and which sentences are long, and check nothing")
-    if "--words" in sys.argv[1:]:
+    if reader.parse_args().words:
         return print_words()
     TOPO = words_of(reader).program
     readme, formats = text_of("README.md"), text_of("docs/FORMATS.md")
