@@ -239,10 +239,28 @@ def readme_faults(crate):
     return faults
 
 
+def anchors_in(text):
+    """The headings of a page as links name them."""
+    return {re.sub(r"[^\w -]", "", title.lower()).replace(" ", "-") for title in re.findall(r"(?m)^#+ (.+)$", text)}
+
+
 def lost_links(name):
-    """The links of a document to files of the repository that are not there."""
-    links = re.findall(r"\]\(([^)#:\s]+)(?:#[^)]*)?\)", text_of(name))
-    return [it for it in links if not os.path.exists(os.path.join(ROOT, os.path.dirname(name), it))]
+    """The links of a document to files of the repository, and to headings in them, that are not there."""
+    for path, anchor in re.findall(r"\]\(([^)#:\s]+)(?:#([^)]*))?\)", text_of(name)):
+        whole = os.path.join(os.path.dirname(name), path)
+        if not os.path.exists(os.path.join(ROOT, whole)):
+            yield path
+        elif anchor and anchor not in anchors_in(text_of(whole)):
+            yield f"{path}#{anchor}"
+
+
+def lost_titles(name):
+    """The headings and bold beginnings that a page names in quotes after the page, and that are not there."""
+    flat = re.sub(r"\s+", " ", text_of(name))
+    for path, title in re.findall(r"`?((?:docs/|examples/\w+/)?[A-Z]\w+\.md)`?(?:, | \()\"([^\"]+)\"", flat):
+        found = next((it for it in (path, os.path.join(os.path.dirname(name), path)) if os.path.exists(os.path.join(ROOT, it))), None)
+        if not found or not re.search(rf"(?m)^#+ {re.escape(title)}\b|\*\*{re.escape(title)}\.?\*\*", text_of(found)):
+            yield f"{path}: {title}"
 
 
 def unknown_names(text):
@@ -334,8 +352,8 @@ def main():
         named = re.findall(r"`((?:crates|docs|checks|bench|examples|\.ci)/[\w./*-]+)`", text_of(name))
         lost = [it for it in named if "*" not in it and not os.path.exists(os.path.join(ROOT, it))]
         checks.append((f"each file that {name} names is there {' '.join(lost)}".rstrip(), not lost))
-        lost = lost_links(name)
-        checks.append((f"each link of {name} leads to a file {' '.join(lost)}".rstrip(), not lost))
+        lost = [*lost_links(name), *lost_titles(name)]
+        checks.append((f"each link of {name} leads to a file, and each heading that it names is there {'; '.join(lost)}".rstrip(), not lost))
     ways = ways_in(text_of("docs/ARCHITECTURE.md"))
     checks.append(("docs/ARCHITECTURE.md has three ways", [whose for whose, _, _ in ways] == ["each vertex", "each pair of a step", "`split 5`"]))
     for whose, count, files in ways:
