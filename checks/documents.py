@@ -259,7 +259,7 @@ def lost_titles(name):
     flat = re.sub(r"\s+", " ", text_of(name))
     for path, title in re.findall(r"`?((?:docs/|examples/\w+/)?[A-Z]\w+\.md)`?(?:, | \()\"([^\"]+)\"", flat):
         found = next((it for it in (path, os.path.join(os.path.dirname(name), path)) if os.path.exists(os.path.join(ROOT, it))), None)
-        if not found or not re.search(rf"(?m)^#+ {re.escape(title)}\b|\*\*{re.escape(title)}\.?\*\*", text_of(found)):
+        if not found or not re.search(rf"(?m)^#+ {re.escape(title)}(?!\w)|\*\*{re.escape(title)}\.?\*\*", text_of(found)):
             yield f"{path}: {title}"
 
 
@@ -384,6 +384,11 @@ def main():
     checks.append((f"docs/FORMATS.md has the job of cubes {'; '.join(faults)}".rstrip(), not faults))
     faults = list(droplet_faults())
     checks.append((f"examples/droplet/README.md shows lines of its run {'; '.join(faults)}".rstrip(), not faults))
+    tried = {crate: edits_of(crate, "must-fail") for crate in crates if edits_of(crate, "must-fail")}
+    beside = re.search(r"Beside these stands one of each of three crates [^:]*: `(\w+)`, `(\w+)` and `(\w+)`", " ".join(text_of("docs/HARDENING.md").split()))
+    slips = f"{sum(tried.values()) - 3} in {len(tried) - 3} crates:"
+    good = beside and all(tried.get(crate) == 1 for crate in beside.groups()) and slips in " ".join(text_of("docs/HARDENING.md").split())
+    checks.append((f"docs/HARDENING.md counts the edits in the gate: {slips[:-1]}, and three beside", bool(good)))
     failed = sum(not good for _, good in checks)
     for what, good in checks:
         print(("ok     " if good else "FAILED ") + what)
