@@ -60,6 +60,8 @@ def constants():
     known.update(number_most=known["u32::MAX"], seen_most=known["u64::MAX"])
     known["calls"] = len(re.findall(r"(?m)^(?:uint32_t|void) topo_\w+\(", text_of("library/topo.h")))
     known["volume_bits"] = (known["FACES_MAX"] * known["DETERMINANT_MAX"]).bit_length()
+    known["metres"] = known["BOX"] // 10**3
+    known["owed"] = len(re.findall(r"(?m)^ \* +\d+\. ", text_of("library/topo.h")))
     known["dots"] = 6 * known["DIRECTION_MAX"] * known["WIDE_MAX"]
     return known
 
@@ -70,6 +72,7 @@ WORDS = dict(enumerate("none one two three four five six seven eight nine ten el
 SAID = {
     "README.md": [
         "| groups | {GROUPS_MAX:w} deep |",
+        "N = 3 counts millimetres, up to {metres} m.",
         "| vertices, faces | {STANDARD_VERTICES}, {STANDARD_FACES} | {VERTICES_MAX}, {FACES_MAX} |",
         "| bytes of a file that is read | {STANDARD_TEXT} | {TEXT_MAX} |",
         "| ids of each kind | {ID_MAX} |",
@@ -162,6 +165,8 @@ SAID = {
         "the version of the log, {VERSION};",
         "Each of the {calls} functions",
         "up to {volume_bits} bits",
+        "the {owed:w} points at the head of `library/topo.h`",
+        "no more than {GROUPS_MAX:w} groups open",
     ],
     "docs/PROVED.md": [
         "(status {status:a file is too} to {status:a file is missing}),",
@@ -177,7 +182,7 @@ SAID = {
 FREE = [
     (r".", r"(?<![\w^.,-])-?[01](?![\d/]|[.,]\d)", "none, one, the first: the ends of ranges and of counts"),
     (r".", r"(?m)^\d+\. ", "the places of a list"),
-    (r".", r"x86-64|UTF-8|C\+\+17|C99|SHA-256|Python 3\.9|Debian 12|\bDebian \d+", "names of machines, languages and texts"),
+    (r".", r"x86-64|glibc 2\.\d+|UTF-8|C\+\+17|C99|SHA-256|Python 3\.9|Debian 12|\bDebian \d+", "names of machines, languages and texts"),
     (r".", r"\b(?:19|20)\d\d\)|Nekhayev \d+|\b2026-\d\d-\d\d", "years of papers, and dates"),
     (r"README", r"10 to the power -N|N =\s+3 counts|4\.17 mm|0\.17|each vertex moved by 1 2 3|vertex 5 too|the log, 2 holds", "the grid by an example; the shown job; a promise by its place"),
     (r"ARCHITECTURE", r"\d+ files\.|longer than 5,|of 16 lines at most", "counted by documents.py"),

@@ -127,6 +127,17 @@ def code_faults(library):
         yield f"its calls are others: {' '.join(sorted(set(named) ^ set(calls)))}"
 
 
+def glibc_of(program):
+    """The version of the C library that a program needs, of which its versions of symbols tell."""
+    built = os.path.join(ROOT, "crates/topo/out/topo")
+    for path in (program, built):
+        with open(path, "rb") as it:
+            found = re.findall(rb"GLIBC_2\.(\d+)", it.read())
+        if found:
+            return f"2.{max(map(int, found))}"
+    return None
+
+
 def droplet_faults():
     """What examples/droplet/README.md shows that its run does not give."""
     with tempfile.TemporaryDirectory() as folder:
@@ -384,6 +395,8 @@ def main():
     checks.append((f"docs/FORMATS.md has the job of cubes {'; '.join(faults)}".rstrip(), not faults))
     faults = list(droplet_faults())
     checks.append((f"examples/droplet/README.md shows lines of its run {'; '.join(faults)}".rstrip(), not faults))
+    glibc = glibc_of(TOPO)
+    checks.append((f"README.md names the C library that the program needs, glibc {glibc}", f"with glibc {glibc} or later" in readme))
     tried = {crate: edits_of(crate, "must-fail") for crate in crates if edits_of(crate, "must-fail")}
     beside = re.search(r"Beside these stands one of each of three crates [^:]*: `(\w+)`, `(\w+)` and `(\w+)`", " ".join(text_of("docs/HARDENING.md").split()))
     slips = f"{sum(tried.values()) - 3} in {len(tried) - 3} crates:"
