@@ -29,6 +29,7 @@ PLACES = {
     "by_cube": ("crates/mesh_make/src/steps.rt", r"(\d+) \* number"),
     "by_axis": ("crates/mesh_make/src/steps.rt", r"(\d+) \* axis"),
     "modulus": ("crates/mesh_make/src/steps.rt", r"sum % (\d+)"),
+    "swept": ("crates/outside_io/src/beside.rt", r"const SWEPT: u32 = (\d+);"),
     "unbuilt": ("topo", r"exit (125)"),
     "directions": ("crates/grid_base/specs/Separation.antt", r"the (\d+) directions over an interval"),
 }
@@ -60,6 +61,9 @@ def constants():
     known.update(number_most=known["u32::MAX"], seen_most=known["u64::MAX"])
     known["calls"] = len(re.findall(r"(?m)^(?:uint32_t|void) topo_\w+\(", text_of("library/topo.h")))
     known["volume_bits"] = (known["FACES_MAX"] * known["DETERMINANT_MAX"]).bit_length()
+    whole = [top for top, _, files in os.walk(os.path.join(ROOT, "crates")) if "Proof.antt" in files and "/proofs/" in top]
+    known["proofs_for_c"] = sum("/topo_library/" in it for it in whole)
+    known["other_proofs"] = len(whole) - known["proofs_for_c"]
     known["metres"] = known["BOX"] // 10**3
     known["owed"] = len(re.findall(r"(?m)^ \* +\d+\. ", text_of("library/topo.h")))
     known["dots"] = 6 * known["DIRECTION_MAX"] * known["WIDE_MAX"]
@@ -140,6 +144,7 @@ SAID = {
         "at most {DEPTH_MAX} halves deep, and no number of it has a size above 2 to the power {^DIRECTION_MAX}.",
         "is the first of the {directions} directions",
         "at most {#NUMBER_MAX} digits,",
+        "stands below {DEPTH_MAX:w} others",
         "A, B and F are 1 to {ID_MAX} with A below B, and LINE is 1 to {COUNT_MAX}.",
         "has a size above 2 to the power {^DIRECTION_MAX} = {DIRECTION_MAX:d} |",
         "(status {status:a line of the proof}) and `refused motion LINE VERDICT` ({status:a motion}),",
@@ -149,7 +154,8 @@ SAID = {
     ],
     "docs/DEFINITIONS.md": ["The **{directions} directions** are"],
     "docs/ARCHITECTURE.md": ["the written test: {directions} directions over"],
-    "docs/DECISIONS.md": ["{PASSES_MAX} is a limit of texts", "Texts stay below 2^{^TEXT_MAX+1} bytes"],
+    "docs/PROOFS.md": ["of {proofs_for_c:w} functions that hand pointers to C, and {other_proofs:w} that make a ghost value"],
+    "docs/DECISIONS.md": ["takes away up to {swept:w} such files", "{PASSES_MAX} is a limit of texts", "Texts stay below 2^{^TEXT_MAX+1} bytes"],
     "docs/EXAMPLES.md": [
         "and how far, 0 to {TURN_MAX}, the second",
         "longer than {high} + d/{high_part}, and collapses it where it is shorter than {low} + d/{low_part}.",
@@ -309,6 +315,8 @@ def job_of_cubes_faults(formats, summary):
     n, key = (int(it) for it in re.search(r"(?m)^try (\d+) (\d+)$", summary).groups())
     by_step, by_cube, by_axis, modulus = (known[it] for it in ("by_step", "by_cube", "by_axis", "modulus"))
     moved = [sum(1 + (key + by_step * step + by_cube + by_axis * axis) % modulus for step in (1, 2, 3)) for axis in range(3)]
+    if f"writes {WORDS[len(summary.splitlines())]} lines on its log" not in formats:
+        yield "a try writes another number of lines"
     for line in (f"cubes {n**3}", "steps 3 whole 3", f"splits {6 * n**3}", f"corner {' '.join(map(str, moved))}"):
         if line not in summary.splitlines():
             yield f"the summary has no line {line!r}"
