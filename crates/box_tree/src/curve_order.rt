@@ -62,6 +62,6 @@ pub fn places_along_curve(alloc: Global, boxes: &[LabelledBox]) -> Result<Vec<u6
 {
     let slots = counts(alloc, boxes)?;
     let mut keyed = with_places(alloc, boxes, &slots)?;
-    keyed.sort_unstable();
+    keyed.sort_unstable_by_key(|k| k.0);
     places_of(alloc, &keyed)
 }

@@ -92,7 +92,7 @@ pub apart_does : (t : Terms) (faces touched : List BoxedFace) (own : Bool) (side
 apart_does t faces touched own side f box other E F off =
     no_and (not (is_asked_elsewhere faces touched own side)) (fails t.touch t.together.now t.depth (upward side) f) (does_apart t.depth (upward side) f box other E F off t.touch t.together.now)
 
-holds_up : (e : MovingEdge) (box : Extent) → HoldsEdge e box → HoldsEdge (upward e) box
+pub holds_up : (e : MovingEdge) (box : Extent) → HoldsEdge e box → HoldsEdge (upward e) box
 holds_up e box h = by_test (nat_lt e.b e.a)
   where
     by_test : (down : Bool) → HoldsEdge (cond down (turned e) e) box

@@ -5,6 +5,7 @@ pub mod Checking
 pub mod Agreeing
 pub mod Reach
 pub mod Nearby
+pub mod SideBoxes
 pub mod Boxed
 pub mod Sides
 pub mod Neighbourhood

@@ -1,16 +1,18 @@
 //! Whether sides of touched faces, and of the faces near them, fail to do what is required of them.
 ghost use Rattle.std.specs.Prelude.{◌≡◌, ◌≤◌, nat_lt, true, false, IsTrue};
 ghost use Rattle.std.specs.List.{list_any};
+ghost use Rattle.pair_paths.specs.Bounds.{HoldsEdge};
 ghost use Rattle.pair_paths.specs.Pairing.{have_a_vertex_in_common};
+ghost use Rattle.edit_check.specs.Sides.{side_of};
 ghost use Rattle.edit_check.specs.FacePairs.{upward, runs_down_beside, is_asked_elsewhere};
 ghost use Rattle.edit_check.specs.FacePairs.{side_fails, sides_fail, faces_fail};
 ghost use Rattle.edit_check.specs.FacePairs.{fails_with_some, some_touched_fail};
 
-use crate::boxed::BoxedFace;
+use crate::boxed::{BoxedEdge, BoxedFace};
 use crate::neighbourhood::Neighbourhood;
 use crate::pair_test::{fails, is_side_of_some};
-use crate::path_boxes::boxed_edge;
-use crate::sides::{first_side, is_run_by_some, second_side, third_side, turned};
+use crate::sides::{Side, box_of_side, is_run_by_some, side_of, turned};
+use box_tree::SmallBox;
 use pair_paths::MovingEdge;
 
 /// The side as an edge, its smaller end first.
@@ -54,34 +56,56 @@ fn is_left_out(near: &Neighbourhood, is_own: bool, side: &MovingEdge) -> bool
     near.faces.len() <= FEW && is_asked_elsewhere(near, is_own, side)
 }
 
-/// Whether a side fails with a face to do what is required of them, and is not asked for elsewhere. It does not fail where
-/// they are known to share a vertex, and where their boxes have no common point.
-fn side_fails(
+/// Whether a side, whose ends have their paths in the box, fails with a face to do what is required of them, and is not asked for
+/// elsewhere.
+fn boxed_side_fails(
     near: &Neighbourhood,
     is_own: bool,
     side: &MovingEdge,
-    is_shared: bool,
+    bounds: SmallBox,
     f: &BoxedFace,
 ) -> bool
-    requires { is_shared ≡ have_a_vertex_in_common side.now f.now.face }
+    requires { HoldsEdge side.now bounds }
     ensures { let n = near.now in
         result ≡ side_fails n.terms n.faces.now n.touched.now is_own side.now f.now.face }
 {
-    if is_shared {
-        return false;
-    }
-    let e = boxed_edge(upward(side));
-    if !f.bounds.overlaps(&e.bounds) {
-        return false;
-    }
     if is_left_out(near, is_own, side) {
         return false;
     }
+    let e = BoxedEdge {
+        edge: upward(side),
+        bounds,
+    };
     let t = near.terms;
     if !fails(t.touch, t.together, t.depth, &e, f) {
         return false;
     }
     !is_asked_elsewhere(near, is_own, side)
+}
+
+/// The same of a side of a face, and of another face. It does not fail where they are known to share a vertex, and where their boxes have no
+/// common point.
+#[inline(always)]
+fn side_fails(
+    near: &Neighbourhood,
+    is_own: bool,
+    is_shared: bool,
+    side: Side,
+    f: &BoxedFace,
+    g: &BoxedFace,
+) -> bool
+    requires { is_shared ≡ have_a_vertex_in_common (side_of side f.now.face) g.now.face }
+    ensures { let n = near.now in
+        result ≡ side_fails n.terms n.faces.now n.touched.now is_own (side_of side f.now.face) g.now.face }
+{
+    if is_shared {
+        return false;
+    }
+    let bounds = box_of_side(side, f);
+    if !g.bounds.overlaps(&bounds) {
+        return false;
+    }
+    boxed_side_fails(near, is_own, &side_of(side, &f.face), bounds, g)
 }
 
 /// Whether one of the sides of a face fails with another face, and is not asked for elsewhere.
@@ -93,9 +117,9 @@ fn sides_fail(near: &Neighbourhood, is_own: bool, f: &BoxedFace, g: &BoxedFace) 
     let first = g.face.corners.has_corner(corners.first);
     let second = g.face.corners.has_corner(corners.second);
     let third = g.face.corners.has_corner(corners.third);
-    side_fails(near, is_own, &first_side(&f.face), first || second, g)
-        || side_fails(near, is_own, &second_side(&f.face), second || third, g)
-        || side_fails(near, is_own, &third_side(&f.face), third || first, g)
+    side_fails(near, is_own, first || second, Side::First, f, g)
+        || side_fails(near, is_own, second || third, Side::Second, f, g)
+        || side_fails(near, is_own, third || first, Side::Third, f, g)
 }
 
 /// Whether a side of a touched face fails with another face, or a side of that one with the touched one. None does where

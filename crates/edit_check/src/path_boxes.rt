@@ -15,12 +15,19 @@ pub(crate) fn boxed_edge(edge: MovingEdge) -> BoxedEdge
     }
 }
 
-/// The face, with a box.
+/// The face, with a box, and with one of each side.
 pub(crate) fn boxed_face(face: MovingFace) -> BoxedFace
     ensures { result.face ≡ face }
 {
+    let c = face.c.bounds();
+    let d = face.d.bounds();
+    let e = face.e.bounds();
+    let first = c.united(&d);
     BoxedFace {
         face,
-        bounds: SmallBox::of(&face.bounds()),
+        bounds: SmallBox::of(&first.united(&e)),
+        first: SmallBox::of(&first),
+        second: SmallBox::of(&d.united(&e)),
+        third: SmallBox::of(&e.united(&c)),
     }
 }

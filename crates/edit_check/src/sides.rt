@@ -1,9 +1,11 @@
 //! The sides of faces, as edges.
 ghost use Rattle.std.specs.Prelude.{◌≡◌};
-ghost use Rattle.edit_check.specs.Sides.{first_side, second_side, third_side};
+ghost use Rattle.pair_paths.specs.Bounds.{HoldsEdge};
+ghost use Rattle.edit_check.specs.Sides.{first_side, second_side, third_side, side_of};
 ghost use Rattle.edit_check.specs.Sides.{turned, is_run_by_some};
 
 use crate::boxed::BoxedFace;
+use box_tree::SmallBox;
 use mesh_base::VertexId;
 use pair_paths::{MovingEdge, MovingFace};
 
@@ -40,6 +42,41 @@ pub(crate) fn third_side(f: &MovingFace) -> MovingEdge
         b: f.corners.first,
         first: f.e,
         second: f.c,
+    }
+}
+
+/// Which of the sides of a face.
+#[derive(Clone, Copy)]
+pub(crate) enum Side {
+    /// From the first corner to the second.
+    First,
+    /// From the second corner to the third.
+    Second,
+    /// From the third corner to the first.
+    Third,
+}
+
+/// That side of the face.
+#[inline(always)]
+pub(crate) fn side_of(side: Side, f: &MovingFace) -> MovingEdge
+    ensures { result ≡ side_of side f.now }
+{
+    match side {
+        Side::First => first_side(f),
+        Side::Second => second_side(f),
+        Side::Third => third_side(f),
+    }
+}
+
+/// The box of that side of the face.
+#[inline(always)]
+pub(crate) fn box_of_side(side: Side, f: &BoxedFace) -> SmallBox
+    ensures { HoldsEdge (side_of side f.now.face) result }
+{
+    match side {
+        Side::First => f.first,
+        Side::Second => f.second,
+        Side::Third => f.third,
     }
 }
 
