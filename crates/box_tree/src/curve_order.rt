@@ -38,7 +38,7 @@ fn with_places(
 ) -> Result<Vec<(u128, u64)>, NoMemory>
     ensures { IfOk result (λ keyed. HaveEachPlace boxes.now keyed.items) }
 {
-    let mut keyed = Vec::new(alloc);
+    let mut keyed = Vec::with_capacity(alloc, boxes.len())?;
     for (i, b) in boxes.iter().enumerate() {
         keyed.push((sort_key(counts, b), i as u64))?;
     }
@@ -49,7 +49,7 @@ fn with_places(
 fn places_of(alloc: Global, keyed: &[(u128, u64)]) -> Result<Vec<u64>, NoMemory>
     ensures { IfOk result (λ order. order.items ≡ map (λ k. k.1) keyed.now) }
 {
-    let mut order = Vec::new(alloc);
+    let mut order = Vec::with_capacity(alloc, keyed.len())?;
     for k in keyed {
         order.push(k.1)?;
     }

@@ -17,11 +17,14 @@ ghost use Rattle.half_mesh.specs.Tied.{corners_at, HaveFans, HasRing};
 use crate::burial::{bury_ring, free_ring};
 use crate::fans::Fans;
 use crate::row::Vertex;
-use grid_base::{NoMemory, Point};
+use grid_base::{FACES_MAX, NoMemory, Point, VERTICES_MAX};
 use id_table::Rows;
 use mesh_base::{Corners, FaceId, FaceTable, Limits, MeshLists, Scale, VertexId};
 use std::alloc::Global;
 use std::marker::Model;
+
+/// A mesh that is made from lists has room for one in so many vertices and faces more.
+const SPARE: usize = 8;
 
 /// A mesh in half-edges. A contract sees it as the mesh with what is buried of it, and how many additions find memory.
 #[derive(Drop)]
@@ -113,6 +116,18 @@ impl Tables {
         Ok(())
     }
 
+    /// Takes memory for the vertices and faces of lists at once, and for some more, so that the first edit copies nothing. A list that doubles
+    /// as it grows takes up to twice what it has. Only speed and memory depend on it.
+    fn reserve_for(&mut self, lists: &MeshLists) -> Result<(), NoMemory>
+        ensures { self.new.state ≡ self.old.state }
+    {
+        let vertices = lists.points.len().min(VERTICES_MAX as usize);
+        let faces = lists.faces.len().min(FACES_MAX as usize);
+        self.fans.reserve_vertices(vertices + vertices / SPARE)?;
+        self.keys.reserve(faces + faces / SPARE)?;
+        self.fans.reserve(3 * (faces + faces / SPARE))
+    }
+
     /// The tables of lists, numbered from 1, with the limits of a scale.
     pub(crate) fn of(alloc: Global, scale: Scale, lists: &MeshLists) -> Result<Tables, NoMemory>
         requires { shape_fault scale (length lists.now.points) lists.now.faces ≡ None }
@@ -121,6 +136,7 @@ impl Tables {
             record { mesh = mesh_under scale lists.now.points lists.now.faces; buried = none_buried }) }
     {
         let mut tables = Tables::new(alloc, scale);
+        tables.reserve_for(lists)?;
         tables.add_points(scale, lists)?;
         tables.add_faces(scale, lists)?;
         Ok(tables)
