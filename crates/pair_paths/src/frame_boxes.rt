@@ -40,7 +40,7 @@ pub fn boxes_in(
 ) -> Result<Vec<LabelledBox>, NoMemory>
     ensures { IfOk result (λ boxes. AreBoxesOf (IsFaceBoxIn frame.now) faces.now boxes.items) }
 {
-    let mut boxes = Vec::new(alloc);
+    let mut boxes = Vec::with_capacity(alloc, faces.len())?;
     for f in faces {
         boxes.push(face_box(f, frame))?;
     }

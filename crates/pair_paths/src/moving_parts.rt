@@ -71,11 +71,11 @@ pub fn moving_faces<S: Surface, P: Paths>(
     ensures { IfOk result (λ faces. faces ≡ moving_faces (S.mesh mesh.now) (P.motion paths.now)) }
 {
     let ids = live_faces(alloc, mesh)?;
-    let mut faces = Items::new(alloc);
+    let mut faces = Vec::with_capacity(alloc, ids.len())?;
     for f in ids.as_slice() {
         if let Some(face) = moving_face(mesh, paths, *f) {
             faces.push(face)?;
         }
     }
-    Ok(faces)
+    Ok(Items::from_vec(faces))
 }

@@ -4,7 +4,7 @@ use Rattle.pair_paths.proofs.Boxed.{AreBoxedTo, boxed_more, all_boxed}
 use Rattle.pair_paths.proofs.frame_boxes.boxes_in.Goals as goal
 
 pub loop-f-init : goal.loop-f-init
-loop-f-init c = record { as_long = ap length c.new-boxes.ensures.items; boxed = λ k x lt h. absurd (omega arith) }
+loop-f-init c = record { as_long = ap length c.in_ok-boxes.ensures.items; boxed = λ k x lt h. absurd (omega arith) }
 
 pub loop-f-preserved : goal.loop-f-preserved
 loop-f-preserved c =

@@ -13,4 +13,4 @@ returns g c =
     let items = c.as_slice-f-items.result.now in
     let one : ℕ → List MovingFace = λ f. listed (λ k. moving_face (g.P.Paths.motion c.args.paths.now) (f, k) ∷ []) (finite.get m.faces f) in
     let all : items ≡ finite.keys m.faces = c.as_slice-f-items.ensures ∙ c.in_ok-ids.ensures in
-    sym (made_all one items c.loop-f.f-index c.loop-f.faces c.loop-f-test.false) ∙ c.loop-f.invariant ∙ ap (flat_map one) all ∙ made_each m.faces (moving_face (g.P.Paths.motion c.args.paths.now))
+    c.from_vec.ensures ∙ sym (made_all one items c.loop-f.f-index c.loop-f.faces.items c.loop-f-test.false) ∙ c.loop-f.invariant ∙ ap (flat_map one) all ∙ made_each m.faces (moving_face (g.P.Paths.motion c.args.paths.now))
