@@ -31,9 +31,9 @@ CopiedInTurn v m [] = ⊤
 CopiedInTurn v m (copy ∷ copies) =
     MayBeCopied v m copy.0 copy.1 × CopiedInTurn v (with_copy v m copy) copies
 
--- fans, each with the point of its copy
-abbrev pub placed : List (List ℕ) → List CopyAt → List (List ℕ × Point)
-placed fans copies = zip fans (copy_points copies)
+-- fans, each with the point where its copy ends
+abbrev pub fan_ends : List (List ℕ) → List CopyAt → List (List ℕ × Point)
+fan_ends fans copies = zip fans (copy_points copies)
 
 -- v was put at a point, and then copies of it were made for fans
 abbrev pub IsCopied : {S : Type 0} → (S → Mesh) → InOut S → ℕ → Point → List (List ℕ × Point) →
