@@ -5,10 +5,11 @@ ghost use Rattle.grid_base.specs.Triples.{plus, IsWithin};
 ghost use Rattle.grid_base.specs.Points.{position_of};
 ghost use Rattle.mesh_base.specs.Changes.{corners_of, with_face, IsFresh, IsFullOfFaces, IsFullOfVertices, with_vertex};
 ghost use Rattle.mesh_base.specs.Kept.{BeginsWith};
-ghost use Rattle.edit_base.specs.Edges.{exact_mid, with_faces, AreFresh};
+ghost use Rattle.edit_base.specs.Edges.{exact_mid, AreFresh};
 ghost use Rattle.mesh_base.specs.Placements.{point_of};
 ghost use Rattle.edit_base.specs.Required.{HasRoomFor};
 ghost use Rattle.edit_base.specs.Clauses.{OnOkIs};
+ghost use Rattle.edit_acts.specs.Making.{FacesAreMade, AllIsAsItWas};
 
 use grid_base::{BOX, NoMemory, Point, Wide};
 use mesh_base::{AddFault, Surface, VertexId, point_of};
@@ -18,8 +19,7 @@ pub fn make_vertex<S: Surface>(mesh: &mut S, at: Point) -> Result<VertexId, NoMe
     requires { ¬ IsFullOfVertices (S.mesh mesh.old) }
     ensures id { OnOkIs result (S.mesh mesh.old).next_vertex }
     ensures made { OnOk result (S.mesh mesh.new ≡ with_vertex (S.mesh mesh.old) at) }
-    ensures left { OnErr result
-        ((S.mesh mesh.new ≡ S.mesh mesh.old) × (S.kept mesh.new ≡ S.kept mesh.old)) }
+    ensures left { OnErr result (AllIsAsItWas S.mesh S.kept mesh) }
     ensures marks { BeginsWith (S.kept mesh.new) (S.kept mesh.old) }
 {
     match mesh.add_vertex(at) {
@@ -34,8 +34,7 @@ pub fn make_face<S: Surface>(mesh: &mut S, c: [VertexId; 3]) -> Result<(), NoMem
     requires fresh { IsFresh (S.mesh mesh.old) (corners_of c) }
     requires room { ¬ IsFullOfFaces (S.mesh mesh.old) }
     ensures made { OnOk result (S.mesh mesh.new ≡ with_face (S.mesh mesh.old) (corners_of c)) }
-    ensures left { OnErr result
-        ((S.mesh mesh.new ≡ S.mesh mesh.old) × (S.kept mesh.new ≡ S.kept mesh.old)) }
+    ensures left { OnErr result (AllIsAsItWas S.mesh S.kept mesh) }
     ensures marks { BeginsWith (S.kept mesh.new) (S.kept mesh.old) }
 {
     match mesh.add_face(c) {
@@ -49,8 +48,7 @@ pub fn make_face<S: Surface>(mesh: &mut S, c: [VertexId; 3]) -> Result<(), NoMem
 pub fn make_faces<S: Surface>(mesh: &mut S, faces: &[[VertexId; 3]]) -> Result<(), NoMemory>
     requires fresh { AreFresh (S.mesh mesh.old) (map corners_of faces.now) }
     requires room { HasRoomFor (length faces.now) (S.mesh mesh.old) }
-    ensures made { OnOk result
-        (S.mesh mesh.new ≡ with_faces (S.mesh mesh.old) (map corners_of faces.now)) }
+    ensures made { OnOk result (FacesAreMade S.mesh mesh (map corners_of faces.now)) }
     ensures marks { BeginsWith (S.kept mesh.new) (S.kept mesh.old) }
 {
     for c in faces {

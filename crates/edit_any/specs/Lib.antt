@@ -1,3 +1,4 @@
 pub mod Dispatch
 pub mod SolidVertices
 pub mod Answered
+pub mod Midpoints

@@ -1,13 +1,6 @@
 //! Laws of all edits. Each is the contract of a function that does nothing.
-ghost use Rattle.std.specs.Prelude.{◌≡◌, ℕ, false};
-ghost use Rattle.grid_base.specs.Points.{position_of};
-ghost use Rattle.grid_base.specs.Triples.{floor_mid_of};
-ghost use Rattle.mesh_base.specs.Mesh.{Mesh};
-ghost use Rattle.mesh_base.specs.Placements.{rest_positions};
-ghost use Rattle.edit_base.specs.Edges.{Edge};
 ghost use Rattle.edit_base.specs.Laws.{StaysSound, StaysClosed, StaysClear, MotionIsClear};
-ghost use Rattle.edit_split.specs.Split.{split_point};
-ghost use Rattle.edit_collapse.specs.Collapse.{collapse_point, has_solid_end};
+ghost use Rattle.edit_any.specs.Midpoints.{SplitsAreHalfway, EndsMeetHalfway};
 ghost use Rattle.edit_any.specs.SolidVertices.{SolidVerticesAlwaysStay};
 ghost use Rattle.edit_any.specs.Dispatch.{edited, scaffold_of, OfEdits, OfExactEdits};
 ghost use Rattle.edit_any.specs.Answered.{EditsStayDone, ChangesTellTheEdit};
@@ -29,11 +22,8 @@ pub fn solid_vertices_stay()
 /// The new vertex of a split, and the end of an edge that a collapse leaves where neither end is solid, stand in the middle of the
 /// edge, each component rounded down: the middle of two points is always a point of the box.
 pub fn new_points_are_midpoints()
-    ensures split { (m : Mesh) (s : Edge) →
-        position_of (split_point m s) ≡ floor_mid_of (rest_positions m s.a) (rest_positions m s.b) }
-    ensures collapse { (m : Mesh) (a b : ℕ) → has_solid_end m a b ≡ false →
-        position_of (collapse_point m a b) ≡
-        floor_mid_of (rest_positions m a) (rest_positions m b) }
+    ensures split { SplitsAreHalfway }
+    ensures collapse { EndsMeetHalfway }
 {}
 
 /// Whatever edit is asked for: where it is done, tested to some depth, it is done with the same change at each greater depth,

@@ -123,7 +123,7 @@ fn without_two(
 
 /// The third act on the faces at the joined vertex: the first that has an opposite goes with its first opposite, until
 /// none has.
-pub(crate) fn cancelled(alloc: Global, faces: LeftFaces) -> Result<LeftFaces, NoMemory>
+pub(crate) fn cancel_opposites(alloc: Global, faces: LeftFaces) -> Result<LeftFaces, NoMemory>
     ensures { IfOk result (λ left. left ≡ cancelled_in (length faces) faces) }
 {
     let mut rest = faces.len();

@@ -12,7 +12,7 @@ ghost use Rattle.edit_base.specs.Reasons.{is_full};
 ghost use Rattle.edit_collapse.specs.Tried.{if_apart, only_at, numbered, joined_at, left_at, MayBeTried, has_id_in, with_id_used_up, with_joined_or_gone, corners_if_live, corners_near, others_than, without_if_bare, TellsDoubled, AreRising};
 ghost use Rattle.edit_base.specs.Clauses.{OnOkIs};
 
-use crate::cancellation::{LeftFaces, cancelled, has_id, repeats};
+use crate::cancellation::{LeftFaces, cancel_opposites, has_id, repeats};
 use edit_acts::{make_face, renamed};
 use grid_base::{ID_MAX, Items, NoMemory, Point};
 use mesh_base::{Corners, FaceId, Surface, VertexId};
@@ -106,7 +106,7 @@ pub(crate) fn left_at<S: Surface>(
     ensures { OnOkIs result (left_at (S.mesh mesh.now) a b) }
 {
     let faces = joined_at(alloc, mesh, a, b)?;
-    cancelled(alloc, faces)
+    cancel_opposites(alloc, faces)
 }
 
 /// Whether two faces would be equal up to rotation after the third act. Only those at the joined vertex can be.

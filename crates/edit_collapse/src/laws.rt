@@ -1,16 +1,11 @@
 //! Laws of collapses. Each is the contract of a function that does nothing.
 
-ghost use Rattle.std.specs.Prelude.{ℕ, Bool, false, ◌≡◌, None};
+ghost use Rattle.std.specs.Prelude.{ℕ};
 ghost use Rattle.grid_base.specs.declared.Point.{Point};
-ghost use Rattle.grid_base.specs.declared.Positions.{Positions};
-ghost use Rattle.grid_base.specs.SeparationTests.{IsExact};
-ghost use Rattle.mesh_base.specs.Mesh.{Mesh, IsSound};
+ghost use Rattle.mesh_base.specs.Mesh.{Mesh};
 ghost use Rattle.mesh_base.specs.Sides.{IsClosed};
-ghost use Rattle.mesh_base.specs.Limits.{is_over_limits};
-ghost use Rattle.mesh_base.specs.Placements.{IsClearMesh};
-ghost use Rattle.edit_base.specs.Edges.{doubles_a_face};
-ghost use Rattle.edit_collapse.specs.Collapse.{Cancels, with_cancelled, joined_faces, collapse_mesh, collapse_scaffold};
-ghost use Rattle.edit_base.specs.Scaffold.{first_failing};
+ghost use Rattle.edit_collapse.specs.Collapse.{Cancels, with_cancelled, collapse_mesh};
+ghost use Rattle.edit_collapse.specs.Laws.{CollapseIsSound, CollapsesAreClear};
 ghost use Rattle.edit_collapse.specs.Answer.{OfCollapses, OfExactCollapses};
 ghost use Rattle.edit_base.specs.Laws.{AlwaysMakes, StaysSound, StaysClosed, StaysClear, MotionIsClear, OfEachEdge};
 ghost use Rattle.edit_collapse.specs.SolidEnds.{SolidEndsStay};
@@ -44,12 +39,6 @@ pub fn solid_ends_stay()
 /// doubled and no limit passed, and a clear one where no pair fails to do what is required of it on the way.
 pub fn collapses_to_any_point()
     ensures closed { OfEachEdge (λ m s. (at : Point) → IsClosed (collapse_mesh m s.a s.b at)) }
-    ensures sound { OfEachEdge (λ m s. (at : Point) →
-        doubles_a_face (joined_faces m s.a s.b) ≡ false →
-        is_over_limits (collapse_mesh m s.a s.b at) ≡ false →
-        IsSound (collapse_mesh m s.a s.b at)) }
-    ensures clear { (meets : Positions → Bool) → IsExact meets → OfEachEdge (λ m s.
-        (at : Point) (depth : ℕ) →
-        first_failing meets (collapse_scaffold m s.a s.b at) depth ≡ None →
-        IsClearMesh (collapse_mesh m s.a s.b at)) }
+    ensures sound { OfEachEdge CollapseIsSound }
+    ensures clear { CollapsesAreClear }
 {}

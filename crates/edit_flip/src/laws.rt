@@ -1,23 +1,15 @@
 //! Laws of flips. Each is the contract of a function that does nothing.
 
-ghost use Rattle.std.specs.Prelude.{false, ◌≡◌, ◌≢◌};
-ghost use Rattle.grid_base.specs.declared.Point.{Point};
-ghost use Rattle.mesh_base.specs.Pairs.{is_edge};
-ghost use Rattle.edit_base.specs.Edges.{without_faces, AreFresh};
-ghost use Rattle.edit_split.specs.Split.{faces_beside, split_mesh, split_is_over};
-ghost use Rattle.edit_flip.specs.Flip.{flip_faces, flip_mesh};
-ghost use Rattle.edit_base.specs.Reasons.{is_full};
 ghost use Rattle.edit_flip.specs.Answer.{OfFlips, OfExactFlips};
 ghost use Rattle.edit_base.specs.Laws.{AlwaysMakes, StaysSound, StaysClosed, StaysClear, MotionIsClear, OfEachEdge};
+ghost use Rattle.edit_flip.specs.Laws.{FlipTakesRoomOfSplit, FlipFacesAreFresh};
 ghost use Rattle.edit_flip.specs.Done.{IsFlip, flip_result, flip_tested_on};
 
 /// A flip takes no more room than its scaffold, which is a split's, and each of its two faces may be made when its turn
 /// comes, where the opposite vertices are two and no edge.
 pub fn flips_can_be_made()
-    ensures room { OfEachEdge (λ m s. (at : Point) →
-        is_full (split_mesh m s at) (flip_mesh m s) ≡ split_is_over m) }
-    ensures faces { OfEachEdge (λ m s. s.c ≢ s.d → is_edge m s.c s.d ≡ false →
-        AreFresh (without_faces m (faces_beside s)) (flip_faces s)) }
+    ensures room { OfEachEdge FlipTakesRoomOfSplit }
+    ensures faces { OfEachEdge FlipFacesAreFresh }
 {}
 
 /// A done flip of a sound, closed and clear mesh leaves one. Its motion, from the edge to the middle of the two opposite

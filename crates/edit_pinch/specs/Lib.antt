@@ -6,3 +6,4 @@ pub mod InTurn
 pub mod Tried
 pub mod SolidVertices
 pub mod Parting
+pub mod Laws

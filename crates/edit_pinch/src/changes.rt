@@ -1,12 +1,12 @@
 //! The changes of a pinch.
 ghost use Rattle.std.specs.Prelude.{◌≡◌, ◌||◌, length, map, sum, nat_lt, OnOk};
-ghost use Rattle.std.specs.List.{fold, zip};
+ghost use Rattle.std.specs.List.{fold};
 ghost use Rattle.mesh_base.specs.Mesh.{IsLiveVertex};
 ghost use Rattle.mesh_base.specs.Changes.{with_point};
 ghost use Rattle.mesh_base.specs.Kept.{BeginsWith};
 ghost use Rattle.edit_base.specs.Edges.{renamed, with_renamed};
-ghost use Rattle.edit_pinch.specs.Pinch.{fans, copy_points, with_copy};
-ghost use Rattle.edit_pinch.specs.InTurn.{MayBeRemade, MayBeCopied, CopiedInTurn};
+ghost use Rattle.edit_pinch.specs.Pinch.{fans, with_copy};
+ghost use Rattle.edit_pinch.specs.InTurn.{MayBeRemade, MayBeCopied, CopiedInTurn, fan_ends, IsCopied};
 ghost use Rattle.edit_pinch.specs.Tried.{TellsOver};
 
 use crate::vertex_fans::Fan;
@@ -87,9 +87,9 @@ fn put_copies<S: Surface>(
     copies: &[CopyAt],
 ) -> Result<(), NoMemory>
     requires same { length fans.now ≡ length copies.now }
-    requires turns { CopiedInTurn v (S.mesh mesh.old) (zip fans.now (copy_points copies.now)) }
-    ensures made { let placed = zip fans.now (copy_points copies.now) in
-        OnOk result (S.mesh mesh.new ≡ fold (with_copy v) (S.mesh mesh.old) placed) }
+    requires turns { CopiedInTurn v (S.mesh mesh.old) (fan_ends fans.now copies.now) }
+    ensures made { let ends = fan_ends fans.now copies.now in
+        OnOk result (S.mesh mesh.new ≡ fold (with_copy v) (S.mesh mesh.old) ends) }
     ensures marks { BeginsWith (S.kept mesh.new) (S.kept mesh.old) }
 {
     for i in 0..fans.len() {
@@ -109,11 +109,8 @@ pub fn apply_pinch<S: Surface>(
 ) -> Result<(), NoMemory>
     requires live { IsLiveVertex (S.mesh mesh.old) v }
     requires same { length fans.now ≡ length copies.now }
-    requires turns { let placed = zip fans.now (copy_points copies.now) in
-        CopiedInTurn v (with_point (S.mesh mesh.old) v at) placed }
-    ensures made { let placed = zip fans.now (copy_points copies.now) in
-        OnOk result (S.mesh mesh.new ≡ fold (with_copy v)
-        (with_point (S.mesh mesh.old) v at) placed) }
+    requires turns { CopiedInTurn v (with_point (S.mesh mesh.old) v at) (fan_ends fans.now copies.now) }
+    ensures made { OnOk result (IsCopied S.mesh mesh v at (fan_ends fans.now copies.now)) }
     ensures marks { BeginsWith (S.kept mesh.new) (S.kept mesh.old) }
 {
     mesh.place(v, at)?;

@@ -58,7 +58,7 @@ fn rim<S: Surface>(
 }
 
 /// A sum with a difference added.
-fn added(sum: i128, from: i32, to: i32) -> i128
+fn sum_with(sum: i128, from: i32, to: i32) -> i128
     requires sum { unsigned_abs sum ≤ 2 ^ 100 }
     requires from { unsigned_abs from ≤ BOX }
     requires to { unsigned_abs to ≤ BOX }
@@ -77,9 +77,9 @@ fn with_way(sum: Wide, from: Point, to: Point) -> Wide
     ensures z_within { unsigned_abs result.z ≤ unsigned_abs sum.z + 2 * BOX }
 {
     Wide {
-        x: added(sum.x, from.x, to.x),
-        y: added(sum.y, from.y, to.y),
-        z: added(sum.z, from.z, to.z),
+        x: sum_with(sum.x, from.x, to.x),
+        y: sum_with(sum.y, from.y, to.y),
+        z: sum_with(sum.z, from.z, to.z),
     }
 }
 

@@ -91,7 +91,7 @@ fn put_in_one(
 }
 
 /// Puts the faces of a list that share a vertex other than `v` with these corners at the end of a fan, and answers the others.
-fn joined(
+fn join_fan(
     alloc: Global,
     v: VertexId,
     c: &Corners,
@@ -126,12 +126,12 @@ fn gather<S: Surface>(
 {
     let mut fan = Items::new(alloc);
     fan.push(f)?;
-    let mut left = others_cornered(alloc, mesh, faces, f)?;
+    let mut left = other_faces(alloc, mesh, faces, f)?;
     let mut i = 0;
     while i < fan.len() {
         let g = fan.as_slice()[i];
         let c = corners_at(mesh, g);
-        left = joined(alloc, v, &c, left.as_slice(), &mut fan)?;
+        left = join_fan(alloc, v, &c, left.as_slice(), &mut fan)?;
         i += 1;
     }
     Ok((fan, left))
@@ -151,7 +151,7 @@ fn others(alloc: Global, faces: &[FaceId], f: FaceId) -> Result<Fan, NoMemory>
 }
 
 /// The faces of a list but one, with their corners: each is looked up once, however long the list is.
-fn others_cornered<S: Surface>(
+fn other_faces<S: Surface>(
     alloc: Global,
     mesh: &S,
     faces: &[FaceId],

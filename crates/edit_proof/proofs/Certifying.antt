@@ -11,13 +11,13 @@ use Rattle.motion_proof.specs.declared.Verdict.TheVariants.{Accepted, NoMotion, 
 use Rattle.motion_proof.specs.Verdicts.{IsVerdict}
 use Rattle.edit_check.specs.Untouched.{IsClearWhereUntouched}
 use Rattle.edit_any.specs.Dispatch.{scaffold_of}
-use Rattle.edit_scaffold.specs.declared.Laid.{Laid}
+use Rattle.edit_scaffold.specs.declared.MarkedMotion.{MarkedMotion}
 use Rattle.edit_scaffold.specs.Made.{IsLaid}
 use Rattle.edit_scaffold.proofs.Agreeing.{laid_is_clear}
 use Rattle.edit_proof.specs.Certified.{IsFound}
 
 -- what is laid is clear where nothing is touched, as what looks near alone asks for
-pub laid_clear : (m n : Mesh) (change : Change) (found : Option Laid) (laid : Laid) (ways : List Move) (fresh_from : ℕ) → IsSound m → IsClearMesh m → IsLaid (scaffold_of m change) m n found → found ≡ Some laid → ways ≡ laid.ways → fresh_from ≡ m.next_face
+pub laid_clear : (m n : Mesh) (change : Change) (found : Option MarkedMotion) (laid : MarkedMotion) (ways : List Move) (fresh_from : ℕ) → IsSound m → IsClearMesh m → IsLaid (scaffold_of m change) m n found → found ≡ Some laid → ways ≡ laid.ways → fresh_from ≡ m.next_face
     → IsClearWhereUntouched n ways fresh_from
 laid_clear m n change found laid ways fresh_from sound clear is there same next =
     let here = laid_is_clear m n change laid.ways laid.claim sound clear (subst (IsLaid (scaffold_of m change) m n) there is) in

@@ -5,7 +5,10 @@ use Rattle.std.proofs.Common.{Option, Some, None}
 use Rattle.mesh_base.specs.Mesh.{Mesh}
 use Rattle.mesh_base.specs.Placements.{Motion}
 use Rattle.edit_base.specs.Scaffold.{Scaffold, motion_of}
+use Rattle.edit_base.specs.declared.Change.{Change}
+use Rattle.edit_any.specs.Dispatch.{scaffold_of}
 use Rattle.edit_scaffold.specs.Made.{claim_of}
+use Rattle.motion_proof.specs.declared.Certificate.{Certificate}
 use Rattle.motion_proof.specs.declared.Claim.{Claim}
 use Rattle.motion_proof.specs.declared.Entry.{Entry}
 use Rattle.motion_proof.specs.declared.Made.{Made}
@@ -42,3 +45,9 @@ IsFoundOf (Some s) claim entries v = IsFound s.mesh (motion_of s) (claim_of s.to
 abbrev pub IsFoundFor : Option Scaffold → Claim → List Entry → Option Verdict → Type 0
 IsFoundFor motion claim entries None = IsNone motion
 IsFoundFor motion claim entries (Some v) = IsFoundOf motion claim entries v
+
+-- this is found of a certificate for the motion of a change, and nothing exactly where that moves
+-- nothing
+abbrev pub IsFoundForChange : Mesh → Change → Certificate → Option Verdict → Type 0
+IsFoundForChange m change proof found =
+    IsFoundFor (scaffold_of m change) proof.claim proof.entries found

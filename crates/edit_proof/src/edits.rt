@@ -7,7 +7,7 @@ ghost use Rattle.edit_check.specs.Untouched.{IsClearWhereUntouched};
 ghost use Rattle.edit_any.specs.Dispatch.{scaffold_of};
 ghost use Rattle.motion_proof.specs.Acceptance.{AreWays};
 ghost use Rattle.edit_scaffold.specs.Made.{IsDone};
-ghost use Rattle.edit_proof.specs.Certified.{IsMadeFor, IsFound, IsFoundFor};
+ghost use Rattle.edit_proof.specs.Certified.{IsMadeFor, IsFound, IsFoundForChange};
 
 use crate::local::{accepts_near, certify_near};
 use edit_base::Change;
@@ -78,8 +78,7 @@ pub fn judge_edit<S: Surface>(
 ) -> Result<Option<Verdict>, NoMemory>
     requires valid { IsValidSurface (S.mesh mesh.old) }
     requires done { IsDone (S.mesh mesh.old) change.now }
-    ensures verdict { let motion = scaffold_of (S.mesh mesh.old) change.now in
-        IfOk result (IsFoundFor motion proof.now.claim proof.now.entries) }
+    ensures verdict { IfOk result (IsFoundForChange (S.mesh mesh.old) change.now proof.now) }
     ensures same { S.mesh mesh.new ≡ S.mesh mesh.old }
     ensures marks { BeginsWith (S.kept mesh.new) (S.kept mesh.old) }
     ensures kept { S.kept mesh.new ≡ S.kept mesh.old }

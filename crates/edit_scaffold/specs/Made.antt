@@ -1,6 +1,7 @@
 -- What is made of the scaffold of a done edit.
 use Rattle.std.specs.Prelude.{◌≡◌, ⊤, ℕ, List, [], IsNone, Result, Ok, Err}
 use Rattle.std.proofs.Common.{Option, Some, None}
+use Rattle.in_out.specs.InOut.{InOut, value_before, value_after}
 use Rattle.grid_base.specs.declared.NoMemory.{NoMemory}
 use Rattle.grid_decided.specs.Decided.{meets_exactly}
 use Rattle.mesh_base.specs.Mesh.{Mesh}
@@ -14,9 +15,9 @@ use Rattle.edit_base.specs.declared.Touch.TheVariants.{Never, Start, End}
 use Rattle.edit_base.specs.Scaffold as edits
 use Rattle.motion_proof.specs.declared.Claim.{Claim}
 use Rattle.motion_proof.specs.declared.Claim.TheVariants.{Along, After, Before}
-use Rattle.edit_any.specs.Dispatch.{answer_to}
+use Rattle.edit_any.specs.Dispatch.{answer_to, scaffold_of}
 use Rattle.edit_scaffold.specs.declared.scaffold.Scaffold.{Scaffold}
-use Rattle.edit_scaffold.specs.declared.scaffold.Laid.{Laid}
+use Rattle.edit_scaffold.specs.declared.scaffold.MarkedMotion.{MarkedMotion}
 
 -- the change is what some edit of the mesh does, tested to some depth
 pub record IsDone (m : Mesh) (change : Change) : Type 0 where
@@ -54,18 +55,25 @@ HasNothingKept None = ⊤
 HasNothingKept (Some made) = kept_in made.mesh ≡ []
 
 -- the mesh before is made that of the edit's scaffold, where that has one, and else it stays
-abbrev pub IsLaid : Option edits.Scaffold → Mesh → Mesh → Option Laid → Type 0
+abbrev pub IsLaid : Option edits.Scaffold → Mesh → Mesh → Option MarkedMotion → Type 0
 IsLaid scaffold before now None = IsNone scaffold × (now ≡ before)
 IsLaid scaffold before now (Some laid) = IsTestedOn scaffold now laid.ways laid.claim
 
+-- By the call the surface became the mesh on which the change is tested, and these are its ways and
+-- claim; where the change is tested on none, the surface stayed.
+abbrev pub IsLaidFor : {S : Type 0} → (S → Mesh) → InOut S → Change → Option MarkedMotion → Type 0
+IsLaidFor mesh surface change laid =
+    let before = mesh (value_before surface) in
+    IsLaid (scaffold_of before change) before (mesh (value_after surface)) laid
+
 -- of what is laid, where something is
-abbrev pub OnLaid : Result (Option Laid) NoMemory → (Laid → Type 0) → Type 0
+abbrev pub OnLaid : Result (Option MarkedMotion) NoMemory → (MarkedMotion → Type 0) → Type 0
 OnLaid (Ok (Some laid)) P = P laid
 OnLaid (Ok None) P = ⊤
 OnLaid (Err fault) P = ⊤
 
 -- unless something is laid, the kept meshes are those before
-abbrev pub KeepsUnlessLaid : Result (Option Laid) NoMemory → List Mesh → List Mesh → Type 0
+abbrev pub KeepsUnlessLaid : Result (Option MarkedMotion) NoMemory → List Mesh → List Mesh → Type 0
 KeepsUnlessLaid (Ok (Some laid)) new old = ⊤
 KeepsUnlessLaid (Ok None) new old = new ≡ old
 KeepsUnlessLaid (Err fault) new old = new ≡ old

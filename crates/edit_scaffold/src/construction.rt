@@ -4,10 +4,10 @@ ghost use Rattle.mesh_base.specs.Mesh.{Mesh};
 ghost use Rattle.mesh_base.specs.Sides.{IsClosed};
 ghost use Rattle.edit_any.specs.Dispatch.{scaffold_of};
 ghost use Rattle.motion_proof.specs.Acceptance.{AreWays};
-ghost use Rattle.edit_scaffold.specs.Made.{IsDone, IsMade, HasNothingKept, IsLaid, OnLaid, KeepsUnlessLaid};
+ghost use Rattle.edit_scaffold.specs.Made.{IsDone, IsMade, HasNothingKept, IsLaidFor, OnLaid, KeepsUnlessLaid};
 
 use crate::changes::put;
-use crate::scaffold::{Laid, Scaffold};
+use crate::scaffold::{MarkedMotion, Scaffold};
 use edit_base::Change;
 use grid_base::NoMemory;
 use mesh_base::Surface;
@@ -61,18 +61,16 @@ pub fn lay<S: Surface>(
     alloc: Global,
     mesh: &mut S,
     change: &Change,
-) -> Result<Option<Laid>, NoMemory>
+) -> Result<Option<MarkedMotion>, NoMemory>
     requires closed { IsClosed (S.mesh mesh.old) }
     requires done { IsDone (S.mesh mesh.old) change.now }
-    ensures laid { let scaffold = scaffold_of (S.mesh mesh.old) change.now in
-        IfOk result (λ laid. IsLaid scaffold (S.mesh mesh.old) (S.mesh mesh.new) laid) }
+    ensures laid { IfOk result (IsLaidFor S.mesh mesh change.now) }
     ensures err { OnErr result (S.mesh mesh.new ≡ S.mesh mesh.old) }
     // The ways are such as a certificate needs.
     ensures fits { OnLaid result (λ laid. AreWays laid.ways) }
     // A return to the mark gives the mesh back.
     ensures holds { OnLaid result (λ laid. MarkHolds S.beyond (S.kept mesh.new) laid.mark) }
-    ensures stands { let kept = S.kept mesh.new in
-        OnLaid result (λ laid. StandsFor kept laid.mark (S.mesh mesh.old)) }
+    ensures stands { OnLaid result (λ laid. StandsFor (S.kept mesh.new) laid.mark (S.mesh mesh.old)) }
     ensures under { OnLaid result (λ laid. laid.mark.under ≡ length (S.kept mesh.old)) }
     ensures place { OnLaid result (λ laid. laid.mark.under ≡ laid.mark.place + S.beyond) }
     ensures marks { BeginsWith (S.kept mesh.new) (S.kept mesh.old) }
@@ -83,7 +81,7 @@ pub fn lay<S: Surface>(
     }
     let mark = mesh.mark()?;
     match put(alloc, mesh, change) {
-        Ok(motion) => Ok(Some(Laid {
+        Ok(motion) => Ok(Some(MarkedMotion {
             mark,
             ways: motion.ways,
             claim: motion.claim,

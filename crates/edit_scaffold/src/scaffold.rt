@@ -14,7 +14,7 @@ pub struct Scaffold {
 
 /// The same, where that mesh is made of the edited one itself. The mark stands for the mesh from before.
 #[derive(Drop)]
-pub struct Laid {
+pub struct MarkedMotion {
     pub mark: Mark,
     pub ways: Items<Way>,
     pub claim: Claim,

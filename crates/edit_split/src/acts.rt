@@ -3,9 +3,8 @@ ghost use Rattle.std.specs.Prelude.{◌≡◌, false, IsOk, OnOk};
 ghost use Rattle.mesh_base.specs.Limits.{is_over_limits};
 ghost use Rattle.mesh_base.specs.Sides.{IsClosed};
 ghost use Rattle.mesh_base.specs.Kept.{BeginsWith};
-ghost use Rattle.grid_base.specs.declared.Point.{Point};
-ghost use Rattle.edit_base.specs.Edges.{Edge};
 ghost use Rattle.edit_split.specs.Split.{split_mesh, split_is_over, split_point};
+ghost use Rattle.edit_split.specs.Laws.{TellsOver};
 ghost use Rattle.edit_base.specs.Required.{HasEdge};
 
 use edit_acts::{are_over, make_faces, make_vertex};
@@ -24,8 +23,7 @@ pub fn split_point<S: Surface>(mesh: &S, e: &EdgeFaces) -> Point
 /// one vertex more, two faces more, one vertex id and four face ids.
 pub fn is_split_over<S: Surface>(mesh: &S) -> bool
     ensures counts { result ≡ split_is_over (S.mesh mesh.now) }
-    ensures over { let m = S.mesh mesh.now in (s : Edge) (at : Point) →
-        IsClosed m → HasEdge m s → result ≡ is_over_limits (split_mesh m s at) }
+    ensures over { TellsOver (S.mesh mesh.now) result }
 {
     are_over(
         mesh.limits(),

@@ -4,11 +4,11 @@ use Rattle.grid_base.specs.declared.NoMemory.{NoMemory}
 use Rattle.mesh_base.specs.Mesh.{Mesh}
 use Rattle.mesh_base.specs.Kept.{BeginsWith}
 use Rattle.edit_zip.specs.Trying.{KeepsWhereNoneIsTaken}
-use Rattle.edit_zip.specs.declared.attempts.Tried.{Tried}
-use Rattle.edit_zip.specs.declared.attempts.Tried.TheVariants.{Taken, Failed}
+use Rattle.edit_zip.specs.declared.attempts.Attempt.{Attempt}
+use Rattle.edit_zip.specs.declared.attempts.Attempt.TheVariants.{Taken, Failed}
 
 -- where the kept meshes are those before, that is said of any answer
-pub keeps : (result : Result Tried NoMemory) (new old : List Mesh) → new ≡ old → KeepsWhereNoneIsTaken result new old
+pub keeps : (result : Result Attempt NoMemory) (new old : List Mesh) → new ≡ old → KeepsWhereNoneIsTaken result new old
 keeps (Ok (Taken k)) new old h = tt
 keeps (Ok (Failed why)) new old h = h
 keeps (Err fault) new old h = h

@@ -24,7 +24,7 @@ use std::alloc::Global;
 
 /// What came of turns that were tried.
 #[derive(Clone, Copy)]
-pub(crate) enum Tried {
+pub(crate) enum Attempt {
     /// This turn is taken.
     Taken(u8),
     /// None is, and what is wrong with the last.
@@ -128,7 +128,7 @@ fn try_of_rank<S: Surface>(
     t: &EdgeFaces,
     place: u8,
     before: Why,
-) -> Result<Tried, NoMemory>
+) -> Result<Attempt, NoMemory>
     requires closed { IsClosed (S.mesh mesh.old) }
     requires clear { IsClearMesh (S.mesh mesh.old) }
     requires tried { MayBeTried (S.mesh mesh.old) s.now t.now }
@@ -142,12 +142,12 @@ fn try_of_rank<S: Surface>(
     for turn in 0..4_u8 {
         if rank(mesh, s, t, turn) == place {
             match try_turn(alloc, mesh, s, t, turn)? {
-                None => return Ok(Tried::Taken(turn)),
+                None => return Ok(Attempt::Taken(turn)),
                 Some(why) => last = why,
             }
         }
     }
-    Ok(Tried::Failed(last))
+    Ok(Attempt::Failed(last))
 }
 
 /// Tries the turns in their order, until one is taken.
@@ -156,7 +156,7 @@ pub(crate) fn try_turns<S: Surface>(
     mesh: &mut S,
     s: &EdgeFaces,
     t: &EdgeFaces,
-) -> Result<Tried, NoMemory>
+) -> Result<Attempt, NoMemory>
     requires closed { IsClosed (S.mesh mesh.old) }
     requires clear { IsClearMesh (S.mesh mesh.old) }
     requires tried { MayBeTried (S.mesh mesh.old) s.now t.now }
@@ -170,9 +170,9 @@ pub(crate) fn try_turns<S: Surface>(
     let mut last = Why::Doubled;
     for place in 0..4_u8 {
         match try_of_rank(alloc, mesh, s, t, place, last)? {
-            Tried::Taken(turn) => return Ok(Tried::Taken(turn)),
-            Tried::Failed(why) => last = why,
+            Attempt::Taken(turn) => return Ok(Attempt::Taken(turn)),
+            Attempt::Failed(why) => last = why,
         }
     }
-    Ok(Tried::Failed(last))
+    Ok(Attempt::Failed(last))
 }

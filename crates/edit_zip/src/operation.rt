@@ -9,7 +9,7 @@ ghost use Rattle.edit_base.specs.Clauses.{mesh_after_call, KeepsOnNo, OnOkIs};
 ghost use Rattle.edit_zip.specs.Done.{zip_result};
 ghost use Rattle.edit_zip.specs.Ready.{MayBeTried};
 
-use crate::attempts::{Tried, try_turns};
+use crate::attempts::{Attempt, try_turns};
 use crate::edges::edges_to_zip;
 use edit_base::{Change, EdgeFaces, Edit};
 use grid_base::NoMemory;
@@ -33,14 +33,14 @@ fn zip_or_leave<S: Surface>(
     ensures kept { KeepsOnNo result (S.kept mesh.new) (S.kept mesh.old) }
 {
     match try_turns(alloc, mesh, s, t)? {
-        Tried::Taken(turn) => Ok(Edit::Done(Change::Zip {
+        Attempt::Taken(turn) => Ok(Edit::Done(Change::Zip {
             a: s.a,
             b: s.b,
             e: t.a,
             f: t.b,
             turn,
         })),
-        Tried::Failed(why) => Ok(Edit::No(why)),
+        Attempt::Failed(why) => Ok(Edit::No(why)),
     }
 }
 

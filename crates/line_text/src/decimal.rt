@@ -125,7 +125,7 @@ fn parse_decimal(word: &[u8]) -> Option<Decimal<'_>>
 }
 
 // The number that the digits write after n, up to the limit.
-fn followed(n: u64, digits: &[u8]) -> u64
+fn number_after(n: u64, digits: &[u8]) -> u64
     requires limited { n ≤ LIMIT }
     requires digits { list_all spec.is_digit digits.now ≡ true }
     ensures { result ≡ min LIMIT (spec.number_after n digits.now) }
@@ -167,7 +167,7 @@ fn tenths(decimals: u8, d: &Decimal<'_>) -> u64
     let (front, _) = d.whole.split_at(kept.min(d.whole.len()));
     let left = kept - front.len();
     let (back, _) = d.fraction.split_at(left.min(d.fraction.len()));
-    let number = followed(followed(0, front), back);
+    let number = number_after(number_after(0, front), back);
     with_zeros(number, left - back.len())
 }
 

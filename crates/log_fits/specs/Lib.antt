@@ -6,3 +6,4 @@ pub mod OneLog
 pub mod Logs
 pub mod Histories
 pub mod Taken
+pub mod Closures

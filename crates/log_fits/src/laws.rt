@@ -1,6 +1,5 @@
 //! Laws of the logs that runs write. Each is the contract of a function that does nothing.
-ghost use Rattle.mesh_field.specs.Stored.{StoredFields};
-ghost use Rattle.track_engine.specs.Answered.{known};
+ghost use Rattle.log_fits.specs.Closures.{ByClosures};
 ghost use Rattle.log_fits.specs.Fitting.{LogsOfMeshesFit, LogsOfJobsFit};
 ghost use Rattle.log_fits.specs.Histories.{CallersHaveLogs, CallersAreTold};
 ghost use Rattle.log_fits.specs.Logs.{LogsAreRead, FirstPartsAreLogs, RunsHaveLogs};
@@ -30,32 +29,27 @@ pub fn mesh_lines_tell()
 /// same scale and decimals, whether the run came to its own end or a directive was refused: `measure` is done, or finds no memory, where
 /// neither side fails.
 pub fn logs_of_runs_are_measured<F: Fn(u8, Point) -> Shift, G: Fn(Point) -> Band>()
-    ensures { (fields : StoredFields F) (sizing : G) →
-        LogsOfRunsAreMeasured (known F.Fn fields G.Fn sizing) }
+    ensures { ByClosures F.Fn G.Fn LogsOfRunsAreMeasured }
 {}
 
 /// The whole log that a run wrote of a clear mesh, no longer than a text may be, is proved: `prove` is done with it, from the same mesh
 /// and with the same scale and decimals, or finds no memory, where neither side fails.
 pub fn logs_of_runs_are_proved<F: Fn(u8, Point) -> Shift, G: Fn(Point) -> Band>()
-    ensures { (fields : StoredFields F) (sizing : G) →
-        LogsOfRunsAreProved (known F.Fn fields G.Fn sizing) }
+    ensures { ByClosures F.Fn G.Fn LogsOfRunsAreProved }
 {}
 
 /// And the proof that `prove` writes of it, no longer than a text may be, is verified: `verify` is done with it, or finds no memory, where
 /// neither side fails.
 pub fn proofs_of_runs_are_verified<F: Fn(u8, Point) -> Shift, G: Fn(Point) -> Band>()
-    ensures { (fields : StoredFields F) (sizing : G) →
-        ProofsOfRunsAreVerified (known F.Fn fields G.Fn sizing) }
+    ensures { ByClosures F.Fn G.Fn ProofsOfRunsAreVerified }
 {}
 
 /// The whole log that a run wrote of a clear mesh, no longer than a text may be, is replayed to its end, from the same mesh and with the
 /// same scale and decimals: `replay` is done, or finds no memory, where neither side fails. The meshes that it then stores, where no one
 /// of them is asked for, are those that the run stored by that log, byte for byte, under the prefix of the replay.
 pub fn logs_of_runs_are_replayed<F: Fn(u8, Point) -> Shift, G: Fn(Point) -> Band>()
-    ensures replayed { (fields : StoredFields F) (sizing : G) →
-        LogsOfRunsAreReplayed (known F.Fn fields G.Fn sizing) }
-    ensures meshes { (fields : StoredFields F) (sizing : G) →
-        MeshesOfRunsAreStoredAgain (known F.Fn fields G.Fn sizing) }
+    ensures replayed { ByClosures F.Fn G.Fn LogsOfRunsAreReplayed }
+    ensures meshes { ByClosures F.Fn G.Fn MeshesOfRunsAreStoredAgain }
 {}
 
 /// Whatever is asked of a tracker whose mesh is within the limits of a scale, call after call: directives, edits by ids, groups that are
@@ -70,7 +64,7 @@ pub fn callers_have_logs()
 
 /// So is the log of a run whose files were read without a fault and whose mesh is clear.
 pub fn runs_have_logs<F: Fn(u8, Point) -> Shift, G: Fn(Point) -> Band>()
-    ensures { (fields : StoredFields F) (sizing : G) → RunsHaveLogs (known F.Fn fields G.Fn sizing) }
+    ensures { ByClosures F.Fn G.Fn RunsHaveLogs }
 {}
 
 /// The text of such a log is read as its lines, by the same scale; and its first lines, however many, are such a log, so that what a run
@@ -93,13 +87,11 @@ pub fn logs_are_taken()
 /// are answered has one log: two runs of the same files that came to the end of their log wrote the same. What a log tells of a file
 /// that is too long is how much of it was seen, which is part of the job here.
 pub fn jobs_have_one_log<F: Fn(u8, Point) -> Shift, G: Fn(Point) -> Band>()
-    ensures { (fields : StoredFields F) (sizing : G) →
-        JobsHaveOneLog (known F.Fn fields G.Fn sizing) }
+    ensures { ByClosures F.Fn G.Fn JobsHaveOneLog }
 {}
 
 /// And two jobs of the same names where the same files lie, with the same scale and decimals, have one log, but for how much was seen of a
 /// file that is too long. So what a run writes depends on the files and on these answers alone.
 pub fn jobs_of_the_same_files_have_one_log<F: Fn(u8, Point) -> Shift, G: Fn(Point) -> Band>()
-    ensures { (fields : StoredFields F) (sizing : G) →
-        JobsOfTheSameFilesHaveOneLog (known F.Fn fields G.Fn sizing) }
+    ensures { ByClosures F.Fn G.Fn JobsOfTheSameFilesHaveOneLog }
 {}

@@ -10,7 +10,7 @@ use Rattle.mesh_base.specs.declared.Scale.{Scale}
 use Rattle.log_text.specs.declared.LogLine.{LogLine}
 use Rattle.log_read.specs.Fields.{Reader, both}
 use Rattle.log_text.specs.Lines.{line_words, pair_words}
-use Rattle.log_read.specs.Values.{whole, alone, pair_at, fault_at}
+use Rattle.log_read.specs.Values.{whole, without_more_words, pair_at, fault_at}
 use Rattle.log_read.specs.Laws.{IsFrom, IsPairInRange, IsInRange, IsOfVersion}
 use Rattle.line_text.proofs.ReadSteps.{bound, ok_same}
 use Rattle.log_read.proofs.Exactness.{IsExact, count_with_end-length, count_with_end-of_read, whole-of_written, whole-of_read, spelled_at-exact}
@@ -40,10 +40,10 @@ module _ {A : Type 0} (read : Reader A) (wa : A → List (List ℕ)) (R : A → 
       subst (IsSpelling scale version ended (front ++ words)) (ok_same (make b.value) l b.after) here
 
 -- a line with no further word
-pub alone_again : (l : LogLine) → alone true l [] ≡ Ok l
+pub alone_again : (l : LogLine) → without_more_words true l [] ≡ Ok l
 alone_again l = ap (λ (found : Result (Unit {0}) TextWhy). found >>= λ u. Ok l) (count_with_end-length 0 [] refl)
 
-pub alone_spelled : (scale : Scale) (version : ℕ) (front : List (List ℕ)) (ended : Bool) (k : LogLine) (words : List (List ℕ)) (l : LogLine) → line_words k ≡ front ++ [] → IsInRange scale k → IsOfVersion version k → alone ended k words ≡ Ok l → IsSpelling scale version ended (front ++ words) l
+pub alone_spelled : (scale : Scale) (version : ℕ) (front : List (List ℕ)) (ended : Bool) (k : LogLine) (words : List (List ℕ)) (l : LogLine) → line_words k ≡ front ++ [] → IsInRange scale k → IsOfVersion version k → without_more_words ended k words ≡ Ok l → IsSpelling scale version ended (front ++ words) l
 alone_spelled scale version front ended k words l same range of h =
     let b = bound (count_with_end ended 0 words) (λ (u : Unit {0}). Ok k) l h in
     let n = count_with_end-of_read ended 0 words b.value b.first in

@@ -23,7 +23,7 @@ use Rattle.log_text.specs.declared.Refusal.TheVariants as refusal
 use Rattle.line_text.specs.Spellings.{spelled_number, spelled_from, spelled_at, count_with_end}
 use Rattle.log_read.specs.Fields.{Reader, both}
 use Rattle.log_text.specs.Lines.{line_words, file_word, kept_word, how_words, shape_words, use_words, refusal_words}
-use Rattle.log_read.specs.Values.{is_latest, whole, alone, shift_of_at}
+use Rattle.log_read.specs.Values.{is_latest, whole, without_more_words, shift_of_at}
 use Rattle.log_read.specs.Reading.{rounds_most, first_of, mesh_of, step_of, hit_of, move_of, moved_of, or_unknown, file_of, refused, long_of, missing_of, shape_of, use_numbers, use_line, why_of_use, use_of, refused_of, solid_of, close_of, plain_of, line_of}
 use Rattle.log_read.specs.EditLines.{edit_of}
 use Rattle.edit_base.specs.declared.Change.TheVariants as change
@@ -187,7 +187,7 @@ missing_back : (scale : Scale) (version : ℕ) (ended : Bool) (words : List (Lis
 unfolding missing_of
 missing_back scale version ended [] l h = fault_value why.Short l h
 missing_back scale version ended (word ∷ words) l h =
-    let b = bound (or_unknown (file_of version word)) (λ (name : FileWord). alone ended (line.Refused (refusal.Missing name)) words) l h in
+    let b = bound (or_unknown (file_of version word)) (λ (name : FileWord). without_more_words ended (line.Refused (refusal.Missing name)) words) l h in
     let named = file_of-some version word b.value (or_unknown-some (file_of version word) b.value b.first) in
     subst (λ (w : List ℕ). IsSpelling scale version ended (codes "refused" ∷ codes "missing" ∷ w ∷ words) l) (sym named.0)
     (alone_spelled scale version (codes "refused" ∷ codes "missing" ∷ file_word b.value ∷ []) ended (line.Refused (refusal.Missing b.value)) words l refl tt named.1 b.after)

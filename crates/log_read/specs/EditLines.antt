@@ -15,7 +15,7 @@ use Rattle.log_text.specs.declared.TheConstants.{TURN_MAX}
 use Rattle.log_text.specs.declared.LogLine.{LogLine}
 use Rattle.log_text.specs.declared.LogLine.TheVariants as line
 use Rattle.log_read.specs.Fields.{Reader, both}
-use Rattle.log_read.specs.Values.{is_latest, edge_at, position_at, place_at, reason_of, reason_at, whole, alone}
+use Rattle.log_read.specs.Values.{is_latest, edge_at, position_at, place_at, reason_of, reason_at, whole, without_more_words}
 
 -- ---- passes
 
@@ -32,11 +32,11 @@ pass_of version ended (kind ∷ words) =
     then (length_of ended words >>= λ n. Ok (line.Pass (pass.Split n)))
     else if bytes_eq kind (codes "collapse")
     then (length_of ended words >>= λ n. Ok (line.Pass (pass.Collapse n)))
-    else if bytes_eq kind (codes "flip") then alone ended (line.Pass pass.Flip) words
+    else if bytes_eq kind (codes "flip") then without_more_words ended (line.Pass pass.Flip) words
     else if bytes_eq kind (codes "zip")
     then (length_of ended words >>= λ n. Ok (line.Pass (pass.Zip n)))
-    else if bytes_eq kind (codes "pinch") then alone ended (line.Pass pass.Pinch) words
-    else if bytes_eq kind (codes "fit") && is_latest version then alone ended line.PassFit words
+    else if bytes_eq kind (codes "pinch") then without_more_words ended (line.Pass pass.Pinch) words
+    else if bytes_eq kind (codes "fit") && is_latest version then without_more_words ended line.PassFit words
     else Err why.Unknown
 
 -- ---- edits that are done

@@ -23,7 +23,7 @@ use Rattle.log_text.specs.declared.Refusal.TheVariants as refusal
 use Rattle.line_text.specs.Spellings.{spaced_words, spelled_number, spelled_from, spelled_at, count_with_end}
 use Rattle.log_read.specs.Fields.{both}
 use Rattle.log_text.specs.Lines.{body_of}
-use Rattle.log_read.specs.Values.{is_latest, pair_at, shift_of_at, fault_at, whole, alone}
+use Rattle.log_read.specs.Values.{is_latest, pair_at, shift_of_at, fault_at, whole, without_more_words}
 use Rattle.log_read.specs.EditLines.{block_of, pinch_of, edit_of}
 
 -- the greatest number of rounds of impact zones: fewer than vertices may live
@@ -63,14 +63,14 @@ move_of ended words = whole ended 4 shift_of_at words >>= λ s. Ok (line.Move s)
 unfoldable pub moved_of : Scale → Bool → List (List ℕ) → Result LogLine TextWhy
 moved_of scale ended [] = Err why.Short
 moved_of scale ended (how ∷ words) =
-    if bytes_eq how (codes "whole") then alone ended (line.Moved Whole) words
+    if bytes_eq how (codes "whole") then without_more_words ended (line.Moved Whole) words
     else if bytes_eq how (codes "impulse")
     then (whole ended 1 (spelled_at 1 PASSES_MAX) words >>= λ n. Ok (line.Moved (Impulse n)))
     else if bytes_eq how (codes "zones")
     then (whole ended 1 (spelled_at 1 (rounds_most scale)) words >>= λ n. Ok (line.Moved (Zones n)))
     else if bytes_eq how (codes "halved")
     then (whole ended 1 (spelled_at 1 HALVINGS_MAX) words >>= λ n. Ok (line.Moved (Halved n)))
-    else if bytes_eq how (codes "zero") then alone ended (line.Moved Zero) words
+    else if bytes_eq how (codes "zero") then without_more_words ended (line.Moved Zero) words
     else Err why.Unknown
 
 -- the file that a word names by a version
@@ -104,7 +104,7 @@ unfoldable pub missing_of : ℕ → Bool → List (List ℕ) → Result LogLine 
 missing_of version ended [] = Err why.Short
 missing_of version ended (word ∷ words) =
     or_unknown (file_of version word)
-    >>= λ name. alone ended (line.Refused (refusal.Missing name)) words
+    >>= λ name. without_more_words ended (line.Refused (refusal.Missing name)) words
 
 -- refused shape: what is too many, or which corner, face or side is wrong
 unfoldable pub shape_of : Bool → List (List ℕ) → Result LogLine TextWhy
@@ -191,8 +191,8 @@ solid_of ended words = whole ended 1 (spelled_at 1 ID_MAX) words >>= λ v. Ok (l
 unfoldable pub close_of : Bool → List (List ℕ) → Result LogLine TextWhy
 close_of ended [] = Err why.Short
 close_of ended (word ∷ words) =
-    if bytes_eq word (codes "kept") then alone ended (line.Close true) words
-    else if bytes_eq word (codes "undone") then alone ended (line.Close false) words
+    if bytes_eq word (codes "kept") then without_more_words ended (line.Close true) words
+    else if bytes_eq word (codes "undone") then without_more_words ended (line.Close false) words
     else Err why.Unknown
 
 -- the line of any other form than those that end in a list
@@ -205,9 +205,9 @@ plain_of scale version ended first words =
     else if bytes_eq first (codes "move") then move_of ended words
     else if bytes_eq first (codes "moved") then moved_of scale ended words
     else if bytes_eq first (codes "refused") then refused_of version ended words
-    else if bytes_eq first (codes "end") then alone ended line.End words
+    else if bytes_eq first (codes "end") then without_more_words ended line.End words
     else if bytes_eq first (codes "solid") && is_latest version then solid_of ended words
-    else if bytes_eq first (codes "group") && is_latest version then alone ended line.Group words
+    else if bytes_eq first (codes "group") && is_latest version then without_more_words ended line.Group words
     else if bytes_eq first (codes "close") && is_latest version then close_of ended words
     else edit_of version ended first words
 

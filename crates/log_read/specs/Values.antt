@@ -103,5 +103,5 @@ whole ended count read words =
     count_with_end ended count words >>= λ counted. read words >>= λ found. Ok found.0
 
 -- a line with no further word
-abbrev pub alone : {A : Type 0} → Bool → A → List (List ℕ) → Result A TextWhy
-alone ended l words = count_with_end ended 0 words >>= λ counted. Ok l
+abbrev pub without_more_words : {A : Type 0} → Bool → A → List (List ℕ) → Result A TextWhy
+without_more_words ended l words = count_with_end ended 0 words >>= λ counted. Ok l

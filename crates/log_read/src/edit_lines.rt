@@ -6,8 +6,8 @@ ghost use Rattle.log_read.specs.Fields.{both};
 ghost use Rattle.log_read.specs.Values.{edge_at};
 ghost use Rattle.log_read.specs.EditLines as spec;
 
-use crate::edit_values::{behind, edge_at, place_at, position_at, reason_at, reason_with_end};
-use crate::values::{alone, count_at, only_count};
+use crate::edit_values::{edge_at, place_at, position_at, reason_at, reason_with_end, words_after};
+use crate::values::{count_at, only_count, without_more_words};
 use edit_base::{Asked, Change, PassKind, Why};
 use grid_base::{ID_MAX, LENGTH_MAX};
 use line_text::{Parts, TextWhy, count_with_end, is_word};
@@ -38,17 +38,17 @@ fn pass(version: u8, ended: bool, words: Parts<'_>) -> Result<LogLine, TextWhy>
         return Ok(LogLine::Pass(PassKind::Collapse { under }));
     }
     if is_word(kind, b"flip") {
-        return alone(ended, LogLine::Pass(PassKind::Flip), words);
+        return without_more_words(ended, LogLine::Pass(PassKind::Flip), words);
     }
     if is_word(kind, b"zip") {
         let within = length(ended, words)?;
         return Ok(LogLine::Pass(PassKind::Zip { within }));
     }
     if is_word(kind, b"pinch") {
-        return alone(ended, LogLine::Pass(PassKind::Pinch), words);
+        return without_more_words(ended, LogLine::Pass(PassKind::Pinch), words);
     }
     if is_word(kind, b"fit") && version == VERSION {
-        return alone(ended, LogLine::PassFit, words);
+        return without_more_words(ended, LogLine::PassFit, words);
     }
     Err(TextWhy::Unknown)
 }
@@ -112,7 +112,7 @@ fn asked_edge(
     ensures { result ≡ spec.asked_of version ended 2 edge_at (parts_left words.entry) }
 {
     let mut words = words;
-    reason_with_end(version, ended, behind(2, words))?;
+    reason_with_end(version, ended, words_after(2, words))?;
     let edge = edge_at(&mut words)?;
     let why = reason_at(version, &mut words)?;
     Ok((edge, why))
@@ -129,7 +129,7 @@ fn asked_edges(
         spec.asked_of version ended 4 (both edge_at edge_at) (parts_left words.entry) }
 {
     let mut words = words;
-    reason_with_end(version, ended, behind(4, words))?;
+    reason_with_end(version, ended, words_after(4, words))?;
     let first = edge_at(&mut words)?;
     let second = edge_at(&mut words)?;
     let why = reason_at(version, &mut words)?;
@@ -143,7 +143,7 @@ fn asked_vertex(version: u8, ended: bool, words: Parts<'_>) -> Result<(u32, Why)
         spec.asked_of version ended 1 (spelled_at 1 ID_MAX) (parts_left words.entry) }
 {
     let mut words = words;
-    reason_with_end(version, ended, behind(1, words))?;
+    reason_with_end(version, ended, words_after(1, words))?;
     let v = count_at(&mut words, 1, ID_MAX)?;
     let why = reason_at(version, &mut words)?;
     Ok((v, why))

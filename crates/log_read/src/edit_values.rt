@@ -88,7 +88,7 @@ pub(crate) fn reason_at(version: u8, words: &mut Parts<'_>) -> Result<Why, TextW
 }
 
 // The words after so many.
-pub(crate) fn behind<'a>(count: usize, words: Parts<'a>) -> Parts<'a>
+pub(crate) fn words_after<'a>(count: usize, words: Parts<'a>) -> Parts<'a>
     ensures { parts_left result ≡ drop count (parts_left words.entry) }
 {
     let mut words = words;

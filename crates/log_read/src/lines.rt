@@ -7,7 +7,7 @@ ghost use Rattle.log_read.specs.Reading as spec;
 use crate::edit_lines::edit;
 use crate::listed::{block, pinch};
 use crate::refusals::refused;
-use crate::values::{alone, count_at, only_count, only_pair, shift_of_at};
+use crate::values::{count_at, only_count, only_pair, shift_of_at, without_more_words};
 use grid_base::{HALVINGS_MAX, ID_MAX};
 use line_text::{Parts, ReadFault, TextFault, TextWhy, count_with_end, is_word};
 use log_text::{COUNT_MAX, LogLine, PASSES_MAX, VERSION};
@@ -86,7 +86,7 @@ fn moved(scale: Scale, ended: bool, words: Parts<'_>) -> Result<LogLine, TextWhy
         return Err(TextWhy::Short);
     };
     if is_word(how, b"whole") {
-        return alone(ended, LogLine::Moved(How::Whole), words);
+        return without_more_words(ended, LogLine::Moved(How::Whole), words);
     }
     if is_word(how, b"impulse") {
         let n = only_count(ended, 1, u32::from(PASSES_MAX), words)?;
@@ -101,7 +101,7 @@ fn moved(scale: Scale, ended: bool, words: Parts<'_>) -> Result<LogLine, TextWhy
         return Ok(LogLine::Moved(How::Halved { times: n as u8 }));
     }
     if is_word(how, b"zero") {
-        return alone(ended, LogLine::Moved(How::Zero), words);
+        return without_more_words(ended, LogLine::Moved(How::Zero), words);
     }
     Err(TextWhy::Unknown)
 }
@@ -123,10 +123,10 @@ fn close(ended: bool, words: Parts<'_>) -> Result<LogLine, TextWhy>
         return Err(TextWhy::Short);
     };
     if is_word(word, b"kept") {
-        return alone(ended, LogLine::Close { kept: true }, words);
+        return without_more_words(ended, LogLine::Close { kept: true }, words);
     }
     if is_word(word, b"undone") {
-        return alone(ended, LogLine::Close { kept: false }, words);
+        return without_more_words(ended, LogLine::Close { kept: false }, words);
     }
     Err(TextWhy::Unknown)
 }
@@ -163,13 +163,13 @@ fn plain(
         return refused(version, ended, words);
     }
     if is_word(form, b"end") {
-        return alone(ended, LogLine::End, words);
+        return without_more_words(ended, LogLine::End, words);
     }
     if is_word(form, b"solid") && version == VERSION {
         return solid(ended, words);
     }
     if is_word(form, b"group") && version == VERSION {
-        return alone(ended, LogLine::Group, words);
+        return without_more_words(ended, LogLine::Group, words);
     }
     if is_word(form, b"close") && version == VERSION {
         return close(ended, words);

@@ -5,7 +5,7 @@ ghost use Rattle.log_read.specs.Values.{whole};
 ghost use Rattle.log_read.specs.Reading as spec;
 
 use crate::values::{
-    alone, count_at, file_of, number_of, only_count, only_fault, only_pair, two_counts,
+    count_at, file_of, number_of, only_count, only_fault, only_pair, two_counts, without_more_words,
 };
 use grid_base::ID_MAX;
 use line_text::{Parts, TextWhy, count_with_end, is_word, spelled_at};
@@ -49,7 +49,7 @@ fn missing(version: u8, ended: bool, words: Parts<'_>) -> Result<LogLine, TextWh
     };
     match file_of(version, word) {
         None => Err(TextWhy::Unknown),
-        Some(file) => alone(ended, LogLine::Refused(Refusal::Missing { file }), words),
+        Some(file) => without_more_words(ended, LogLine::Refused(Refusal::Missing { file }), words),
     }
 }
 

@@ -160,8 +160,12 @@ pub(crate) fn only_fault(groups: bool, ended: bool, words: Parts<'_>) -> Result<
     fault_at(groups, &mut words)
 }
 
-pub(crate) fn alone(ended: bool, line: LogLine, words: Parts<'_>) -> Result<LogLine, TextWhy>
-    ensures { result ≡ spec.alone ended line (parts_left words.entry) }
+pub(crate) fn without_more_words(
+    ended: bool,
+    line: LogLine,
+    words: Parts<'_>,
+) -> Result<LogLine, TextWhy>
+    ensures { result ≡ spec.without_more_words ended line (parts_left words.entry) }
 {
     count_with_end(ended, 0, words)?;
     Ok(line)

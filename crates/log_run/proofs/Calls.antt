@@ -19,13 +19,13 @@ use Rattle.log_text.specs.declared.LogLine.{LogLine}
 use Rattle.log_text.specs.declared.LogLine.TheVariants as line
 use Rattle.log_replay.specs.Replay.{Replay, closed}
 use Rattle.log_run.specs.declared.replay_state.StepSoFar.{StepSoFar}
-use Rattle.log_run.specs.declared.replay_state.Standing.{Standing}
+use Rattle.log_run.specs.declared.replay_state.ReplayState.{ReplayState}
 use Rattle.log_run.specs.States.{LogState, with_line}
 use Rattle.log_replay.specs.Moves.{MayMove}
 use Rattle.edit_any.specs.Answered.{IsAnswered}
 use Rattle.log_run.specs.Fits.{FitsFirst}
 use Rattle.log_run.specs.Groups.{mesh_at, stack_of, MarksHold}
-use Rattle.log_run.specs.Parts.{StepHolds, Holds, standing, Takes}
+use Rattle.log_run.specs.Parts.{StepHolds, Holds, state_now, Takes}
 use Rattle.log_run.proofs.OpenMarks.{stack_along, marks_along, stack_opened, marks_opened, marks_kept, mesh_back, marks_back, stack_back}
 use Rattle.log_run.proofs.StepMoves.{holds_more}
 use Rattle.log_run.proofs.Promised.{accepted}
@@ -38,7 +38,7 @@ state_is m n moves others stack stacked begun mesh same groups =
     λ i. record { replay = record { mesh = mesh i; moves = same i; stack = groups i }; is_begun = begun; has_line = true; is_spent = false }
 
 -- the first line changes nothing
-pub first_stays : (m : Mesh) (kept : List Mesh) (at : Standing) (l : LogLine) → FitsFirst l → standing m kept at ≡ with_line (standing m kept at) l
+pub first_stays : (m : Mesh) (kept : List Mesh) (at : ReplayState) (l : LogLine) → FitsFirst l → state_now m kept at ≡ with_line (state_now m kept at) l
 first_stays m kept at (line.First version) fits = refl
 first_stays m kept at l fits = absurd fits
 
@@ -46,7 +46,7 @@ first_stays m kept at l fits = absurd fits
 no_step : {P : Type 0} (begun : Bool) → begun ≡ false → begun ≡ true → P
 no_step begun e h = absurd (false≢true (sym e ∙ h))
 
-module _ (beyond : ℕ) (m : Mesh) (kept : List Mesh) (at : Standing) (holds : Holds beyond m kept at) where
+module _ (beyond : ℕ) (m : Mesh) (kept : List Mesh) (at : ReplayState) (holds : Holds beyond m kept at) where
   -- ---- a step that begins
   pub begun : at.begun ≡ false → (k : ℕ) (step : StepSoFar) → step.moves ≡ [] → StepHolds m step → Takes beyond (line.Step k) m kept at m kept (record { marks = at.marks; step = step; begun = true }) (Ok true)
   begun e k step none rests =

@@ -13,6 +13,7 @@ use Rattle.log_run.specs.States.{LogState, with_line}
 use Rattle.log_replay.specs.Moves.{AreMoves}
 use Rattle.log_run.specs.Steps.{shifts_of}
 use Rattle.log_run.specs.Fits.{LineFits}
+use Rattle.log_run.specs.Motions.{moved_in, IsClearWhereMoved, PassesWhereMoved, StepHasNoneFailing}
 
 -- The mesh is sound, closed and clear, and so is that at which each open group was opened; the
 -- moves of a step that is begun are moves of its mesh, and between two steps there are none.
@@ -43,3 +44,14 @@ pub record ShiftsTell (m : Mesh) (moves shifts : Shifts) : Type 0 where
 abbrev pub AllShiftsTell : Type 0
 AllShiftsTell =
     (m : Mesh) (moves : Shifts) → AreMoves m moves → ShiftsTell m moves (shifts_of m moves)
+
+-- A line whose motion is clear, as its kind claims, ends no step that is not clear.
+abbrev pub ClearMotionsAreClearSteps : Type 0
+ClearMotionsAreClearSteps = (s : LogState) (line : LogLine) → IsValidState s →
+    IsClearWhereMoved (moved_in s.replay line) → StepIsClear s.replay line
+
+-- Each pair of the motion of a line that fits passes, as the motion's kind claims, where no pair of
+-- a step that ends fails at the greatest depth.
+abbrev pub FittingMotionsPass : Type 0
+FittingMotionsPass = (s : LogState) (line : LogLine) → IsValidState s → LineFits s line →
+    StepHasNoneFailing s.replay line → PassesWhereMoved (moved_in s.replay line)

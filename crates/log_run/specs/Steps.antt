@@ -7,7 +7,8 @@ use Rattle.grid_base.specs.Points.{no_shift}
 use Rattle.mesh_base.specs.declared.ShiftOf.{ShiftOf}
 use Rattle.mesh_base.specs.Mesh.{Mesh}
 use Rattle.mesh_base.specs.Shifts.{Shifts}
-use Rattle.log_replay.specs.Moves.{is_named}
+use Rattle.log_replay.specs.Moves.{is_named, AreMoves}
+use Rattle.log_run.specs.States.{LogState}
 
 -- the vertex and no shift
 abbrev pub still_at : ℕ → ShiftOf
@@ -24,3 +25,12 @@ shifts_of m moves = map (shift_for moves) (finite.keys m.points)
 -- for each live vertex, by rising id, whether one of the moves names it
 abbrev pub names_of : Mesh → Shifts → List Bool
 names_of m moves = map (is_named moves) (finite.keys m.points)
+
+-- the shift of each live vertex in the step that is begun
+abbrev pub step_shifts : LogState → Shifts
+step_shifts s = shifts_of s.replay.mesh s.replay.moves
+
+-- the moves of the step are moves of the mesh: they name live vertices, none twice, and end in the
+-- box
+abbrev pub HasMoves : LogState → Type 0
+HasMoves s = AreMoves s.replay.mesh s.replay.moves

@@ -9,7 +9,7 @@ ghost use Rattle.edit_any.specs.Answered.{IsAnswered};
 ghost use Rattle.log_run.specs.Parts.{Holds, Takes};
 
 use crate::changes::{are_same, asked_by};
-use crate::replay_state::Standing;
+use crate::replay_state::ReplayState;
 use crate::settlement::settle_if_none;
 use edit_any::edit;
 use edit_base::{Change, Edit};
@@ -43,7 +43,7 @@ pub(crate) fn redo<S: Surface>(
 pub(crate) fn take_edit<S: Surface>(
     alloc: Global,
     mesh: &mut S,
-    at: &Standing,
+    at: &ReplayState,
     change: &Change,
 ) -> Result<bool, NoMemory>
     requires holds { Holds S.beyond (S.mesh mesh.old) (S.kept mesh.old) at.now }

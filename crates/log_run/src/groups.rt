@@ -3,13 +3,13 @@ ghost use Rattle.std.specs.Prelude.{Ok};
 ghost use Rattle.log_text.specs.declared.LogLine.TheVariants.{Group, Close};
 ghost use Rattle.log_run.specs.Parts.{Holds, Takes};
 
-use crate::replay_state::Standing;
+use crate::replay_state::ReplayState;
 use grid_base::NoMemory;
 use mesh_base::Surface;
 use step_text::GROUPS_MAX;
 
 /// Takes the line of a group that is opened.
-pub(crate) fn open_group<S: Surface>(mesh: &mut S, at: &mut Standing) -> Result<bool, NoMemory>
+pub(crate) fn open_group<S: Surface>(mesh: &mut S, at: &mut ReplayState) -> Result<bool, NoMemory>
     requires { Holds S.beyond (S.mesh mesh.old) (S.kept mesh.old) at.old }
     ensures { Takes S.beyond Group
         (S.mesh mesh.old) (S.kept mesh.old) at.old
@@ -31,7 +31,7 @@ pub(crate) fn open_group<S: Surface>(mesh: &mut S, at: &mut Standing) -> Result<
 }
 
 /// Takes the line of a group that is closed: kept, or taken back. Takes no memory.
-pub(crate) fn close_group<S: Surface>(mesh: &mut S, at: &mut Standing, kept: bool) -> bool
+pub(crate) fn close_group<S: Surface>(mesh: &mut S, at: &mut ReplayState, kept: bool) -> bool
     requires { Holds S.beyond (S.mesh mesh.old) (S.kept mesh.old) at.old }
     ensures { Takes S.beyond (Close kept)
         (S.mesh mesh.old) (S.kept mesh.old) at.old

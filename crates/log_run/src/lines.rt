@@ -4,11 +4,11 @@ ghost use Rattle.std.specs.FinMap as map;
 ghost use Rattle.log_text.specs.declared.LogLine.TheVariants.{Solid};
 ghost use Rattle.log_run.specs.States.{with_line};
 ghost use Rattle.log_run.specs.Fits.{FitsFirst, LineFits, MayBeTried};
-ghost use Rattle.log_run.specs.Parts.{standing, state_of, Holds, Takes};
+ghost use Rattle.log_run.specs.Parts.{state_now, state_of, Holds, Takes};
 
 use crate::edits::take_edit;
 use crate::groups::{close_group, open_group};
-use crate::replay_state::Standing;
+use crate::replay_state::ReplayState;
 use crate::settlement::settle_if_none;
 use crate::step_lines::{begin_step, end_step, take_move};
 use grid_base::NoMemory;
@@ -17,7 +17,7 @@ use mesh_base::{Surface, VertexId};
 use std::alloc::Global;
 
 // Whether the mesh has so many vertices and faces, and no step is begun.
-fn has_counts<S: Surface>(mesh: &S, at: &Standing, vertices: u32, faces: u32) -> bool
+fn has_counts<S: Surface>(mesh: &S, at: &ReplayState, vertices: u32, faces: u32) -> bool
     ensures { IsTrue result ↔ ((at.now.begun ≡ false)
         × (vertices ≡ map.len (S.mesh mesh.now).points)
         × (faces ≡ map.len (S.mesh mesh.now).faces)) }
@@ -26,7 +26,7 @@ fn has_counts<S: Surface>(mesh: &S, at: &Standing, vertices: u32, faces: u32) ->
 }
 
 // Takes the line of a vertex that is solid from here on.
-fn take_solid<S: Surface>(mesh: &mut S, at: &Standing, v: VertexId) -> Result<bool, NoMemory>
+fn take_solid<S: Surface>(mesh: &mut S, at: &ReplayState, v: VertexId) -> Result<bool, NoMemory>
     requires { Holds S.beyond (S.mesh mesh.old) (S.kept mesh.old) at.now }
     ensures { Takes S.beyond (Solid v)
         (S.mesh mesh.old) (S.kept mesh.old) at.now
@@ -49,7 +49,7 @@ fn take_solid<S: Surface>(mesh: &mut S, at: &Standing, v: VertexId) -> Result<bo
 fn take_later<S: Surface>(
     alloc: Global,
     mesh: &mut S,
-    at: &mut Standing,
+    at: &mut ReplayState,
     line: &LogLine,
 ) -> Result<bool, NoMemory>
     requires holds { Holds S.beyond (S.mesh mesh.old) (S.kept mesh.old) at.old }
@@ -97,7 +97,7 @@ fn is_first(line: &LogLine) -> bool
 pub(crate) fn take_line<S: Surface>(
     alloc: Global,
     mesh: &mut S,
-    at: &mut Standing,
+    at: &mut ReplayState,
     taken: bool,
     line: &LogLine,
 ) -> Result<bool, NoMemory>
@@ -105,8 +105,8 @@ pub(crate) fn take_line<S: Surface>(
     requires tried { MayBeTried (S.mesh mesh.old) line.now }
     ensures fits { let from = state_of (S.mesh mesh.old) (S.kept mesh.old) at.old taken false in
         IfOk result (λ fits. IsTrue fits ↔ LineFits from line.now) }
-    ensures made { result ≡ Ok true → standing (S.mesh mesh.new) (S.kept mesh.new) at.new
-        ≡ with_line (standing (S.mesh mesh.old) (S.kept mesh.old) at.old) line.now }
+    ensures made { result ≡ Ok true → state_now (S.mesh mesh.new) (S.kept mesh.new) at.new
+        ≡ with_line (state_now (S.mesh mesh.old) (S.kept mesh.old) at.old) line.now }
     ensures holds { result ≡ Ok true → Holds S.beyond (S.mesh mesh.new) (S.kept mesh.new) at.new }
     ensures left { MayBeTried (S.mesh mesh.new) line.now }
 {

@@ -11,10 +11,10 @@ ghost use Rattle.log_text.specs.declared.LogLine.TheVariants.{Moved, Did};
 ghost use Rattle.log_replay.specs.Moves.{end_of};
 ghost use Rattle.log_run.specs.Fits.{FitsLater};
 ghost use Rattle.log_run.specs.Motions.{way_of, IsCertified, IsJudged};
-ghost use Rattle.log_run.specs.Parts.{standing, Holds};
+ghost use Rattle.log_run.specs.Parts.{state_now, Holds};
 
 use crate::edits::redo;
-use crate::replay_state::Standing;
+use crate::replay_state::ReplayState;
 use edit_base::Change;
 use edit_proof::{certify_edit, judge_edit};
 use grid_base::{Items, NoMemory, moved};
@@ -57,10 +57,10 @@ fn ways_of<S: Surface>(alloc: Global, mesh: &S, shifts: &[ShiftOf]) -> Result<It
 fn certify_step<S: Surface>(
     alloc: Global,
     mesh: &S,
-    at: &Standing,
+    at: &ReplayState,
 ) -> Result<Option<Made>, NoMemory>
     requires { Holds S.beyond (S.mesh mesh.now) (S.kept mesh.now) at.now }
-    ensures { (how : How) → let s = standing (S.mesh mesh.now) (S.kept mesh.now) at.now in
+    ensures { (how : How) → let s = state_now (S.mesh mesh.now) (S.kept mesh.now) at.now in
         IfOk result (IsCertified s (Moved how)) }
 {
     if !at.begun {
@@ -77,11 +77,11 @@ fn certify_step<S: Surface>(
 fn judge_step<S: Surface>(
     alloc: Global,
     mesh: &S,
-    at: &Standing,
+    at: &ReplayState,
     proof: &Certificate,
 ) -> Result<Option<Verdict>, NoMemory>
     requires { Holds S.beyond (S.mesh mesh.now) (S.kept mesh.now) at.now }
-    ensures { (how : How) → let s = standing (S.mesh mesh.now) (S.kept mesh.now) at.now in
+    ensures { (how : How) → let s = state_now (S.mesh mesh.now) (S.kept mesh.now) at.now in
         IfOk result (IsJudged s (Moved how) proof.now.claim proof.now.entries) }
 {
     if !at.begun {
@@ -101,11 +101,11 @@ fn judge_step<S: Surface>(
 fn does_edit_fit<S: Surface>(
     alloc: Global,
     mesh: &mut S,
-    at: &Standing,
+    at: &ReplayState,
     change: &Change,
 ) -> Result<bool, NoMemory>
     requires { IsValidSurface (S.mesh mesh.old) }
-    ensures fits { let s = standing (S.mesh mesh.old) (S.kept mesh.old) at.now in
+    ensures fits { let s = state_now (S.mesh mesh.old) (S.kept mesh.old) at.now in
         IfOk result (λ fits. IsTrue fits ↔ FitsLater s (Did change.now)) }
     ensures same { S.mesh mesh.new ≡ S.mesh mesh.old }
     ensures marks { BeginsWith (S.kept mesh.new) (S.kept mesh.old) }
@@ -124,11 +124,11 @@ fn does_edit_fit<S: Surface>(
 fn certify_change<S: Surface>(
     alloc: Global,
     mesh: &mut S,
-    at: &Standing,
+    at: &ReplayState,
     change: &Change,
 ) -> Result<Option<Made>, NoMemory>
     requires { IsValidSurface (S.mesh mesh.old) }
-    ensures made { let s = standing (S.mesh mesh.old) (S.kept mesh.old) at.now in
+    ensures made { let s = state_now (S.mesh mesh.old) (S.kept mesh.old) at.now in
         IfOk result (IsCertified s (Did change.now)) }
     ensures same { S.mesh mesh.new ≡ S.mesh mesh.old }
     ensures marks { BeginsWith (S.kept mesh.new) (S.kept mesh.old) }
@@ -143,12 +143,12 @@ fn certify_change<S: Surface>(
 fn judge_change<S: Surface>(
     alloc: Global,
     mesh: &mut S,
-    at: &Standing,
+    at: &ReplayState,
     change: &Change,
     proof: &Certificate,
 ) -> Result<Option<Verdict>, NoMemory>
     requires { IsValidSurface (S.mesh mesh.old) }
-    ensures verdict { let s = standing (S.mesh mesh.old) (S.kept mesh.old) at.now in
+    ensures verdict { let s = state_now (S.mesh mesh.old) (S.kept mesh.old) at.now in
         IfOk result (IsJudged s (Did change.now) proof.now.claim proof.now.entries) }
     ensures same { S.mesh mesh.new ≡ S.mesh mesh.old }
     ensures marks { BeginsWith (S.kept mesh.new) (S.kept mesh.old) }
@@ -163,12 +163,12 @@ fn judge_change<S: Surface>(
 pub(crate) fn certify_line<S: Surface>(
     alloc: Global,
     mesh: &mut S,
-    at: &Standing,
+    at: &ReplayState,
     line: &LogLine,
 ) -> Result<Option<Made>, NoMemory>
     requires holds { Holds S.beyond (S.mesh mesh.old) (S.kept mesh.old) at.now }
     requires valid { IsValidSurface (S.mesh mesh.old) }
-    ensures made { let s = standing (S.mesh mesh.old) (S.kept mesh.old) at.now in
+    ensures made { let s = state_now (S.mesh mesh.old) (S.kept mesh.old) at.now in
         IfOk result (IsCertified s line.now) }
     ensures same { S.mesh mesh.new ≡ S.mesh mesh.old }
     ensures marks { BeginsWith (S.kept mesh.new) (S.kept mesh.old) }
@@ -184,13 +184,13 @@ pub(crate) fn certify_line<S: Surface>(
 pub(crate) fn judge_line<S: Surface>(
     alloc: Global,
     mesh: &mut S,
-    at: &Standing,
+    at: &ReplayState,
     line: &LogLine,
     proof: &Certificate,
 ) -> Result<Option<Verdict>, NoMemory>
     requires holds { Holds S.beyond (S.mesh mesh.old) (S.kept mesh.old) at.now }
     requires valid { IsValidSurface (S.mesh mesh.old) }
-    ensures verdict { let s = standing (S.mesh mesh.old) (S.kept mesh.old) at.now in
+    ensures verdict { let s = state_now (S.mesh mesh.old) (S.kept mesh.old) at.now in
         IfOk result (IsJudged s line.now proof.now.claim proof.now.entries) }
     ensures same { S.mesh mesh.new ≡ S.mesh mesh.old }
     ensures marks { BeginsWith (S.kept mesh.new) (S.kept mesh.old) }

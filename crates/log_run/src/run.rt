@@ -1,8 +1,7 @@
 ghost use Rattle.std.specs.Prelude.{◌≡◌, ◌↔◌, true, false, Ok, IfOk, IfSome, IsSome, IsTrue};
 ghost use Rattle.mesh_journal.specs.Journal.{mesh_in};
 ghost use Rattle.log_run.specs.States.{without_lines, with_line};
-ghost use Rattle.log_replay.specs.Moves.{AreMoves};
-ghost use Rattle.log_run.specs.Steps.{shifts_of};
+ghost use Rattle.log_run.specs.Steps.{step_shifts, HasMoves};
 ghost use Rattle.log_run.specs.Fits.{LineFits, MayBeTried};
 ghost use Rattle.log_run.specs.Laws.{IsValidState};
 ghost use Rattle.log_run.specs.Motions.{IsCertified, IsJudged};
@@ -10,7 +9,7 @@ ghost use Rattle.log_run.specs.Motions.{IsCertified, IsJudged};
 use crate::lines::take_line;
 use crate::motions::{certify_line, judge_line};
 use crate::open_marks::OpenMarks;
-use crate::replay_state::{Standing, StepSoFar};
+use crate::replay_state::{ReplayState, StepSoFar};
 use grid_base::{Items, NoMemory};
 use log_text::LogLine;
 use mesh_base::Shifts;
@@ -24,7 +23,7 @@ use std::marker::Model;
 pub struct LogRun {
     alloc: Global,
     mesh: JournalMesh,
-    at: Standing,
+    at: ReplayState,
     taken: bool,
     spent: bool,
 }
@@ -58,7 +57,7 @@ impl LogRun {
         LogRun {
             alloc,
             mesh,
-            at: Standing {
+            at: ReplayState {
                 marks: OpenMarks::none(alloc),
                 step: StepSoFar {
                     moves: Shifts::new(alloc),
@@ -83,10 +82,8 @@ impl LogRun {
     /// begun. The moves of the step name live vertices, none twice, and end in the box. Takes no memory.
     pub fn moves(&self) -> Option<&Shifts>
         ensures begun { IsSome result ↔ (self.now.is_begun ≡ true) }
-        ensures shifts { let r = self.now.replay in
-            self.now.is_spent ≡ false → IfSome result (λ all. all.now ≡ shifts_of r.mesh r.moves) }
-        ensures told { let r = self.now.replay in
-            self.now.is_spent ≡ false → IsSome result → AreMoves r.mesh r.moves }
+        ensures shifts { self.now.is_spent ≡ false → IfSome result (λ all. all.now ≡ step_shifts self.now) }
+        ensures told { self.now.is_spent ≡ false → IsSome result → HasMoves self.now }
     {
         if self.at.begun {
             Some(&self.at.step.shifts)
@@ -142,8 +139,8 @@ impl LogRun {
     ) -> Result<Option<Verdict>, NoMemory>
         requires unspent { self.old.is_spent ≡ false }
         requires valid { IsValidState self.old }
-        ensures verdict { let claim = proof.now.claim in
-            IfOk result (IsJudged self.old line.now claim proof.now.entries) }
+        ensures verdict { IfOk result
+            (IsJudged self.old line.now proof.now.claim proof.now.entries) }
         ensures same { self.new ≡ self.old }
     {
         if !self.taken {

@@ -8,7 +8,7 @@ ghost use Rattle.log_run.specs.Steps.{still_at};
 ghost use Rattle.log_run.specs.Parts.{StepHolds, Holds, Takes};
 
 use crate::placement::{ends_outside, place_all};
-use crate::replay_state::{Standing, StepSoFar};
+use crate::replay_state::{ReplayState, StepSoFar};
 use crate::settlement::settle_if_none;
 use grid_base::{Items, NO_SHIFT, NoMemory};
 use mesh_base::{ShiftOf, Shifts, Surface, VertexId, live_vertices};
@@ -59,7 +59,7 @@ fn step_at_rest<S: Surface>(alloc: Global, mesh: &S) -> Result<StepSoFar, NoMemo
 pub(crate) fn begin_step<S: Surface>(
     alloc: Global,
     mesh: &S,
-    at: &mut Standing,
+    at: &mut ReplayState,
 ) -> Result<bool, NoMemory>
     requires { Holds S.beyond (S.mesh mesh.now) (S.kept mesh.now) at.old }
     ensures { (k : ℕ) → Takes S.beyond (Step k)
@@ -129,7 +129,7 @@ fn put_move(step: &mut StepSoFar, place: usize, s: &ShiftOf) -> Result<(), NoMem
 /// Takes the line of a move.
 pub(crate) fn take_move<S: Surface>(
     mesh: &S,
-    at: &mut Standing,
+    at: &mut ReplayState,
     s: &ShiftOf,
 ) -> Result<bool, NoMemory>
     requires { Holds S.beyond (S.mesh mesh.now) (S.kept mesh.now) at.old }
@@ -153,7 +153,7 @@ pub(crate) fn take_move<S: Surface>(
 pub(crate) fn end_step<S: Surface>(
     alloc: Global,
     mesh: &mut S,
-    at: &mut Standing,
+    at: &mut ReplayState,
 ) -> Result<bool, NoMemory>
     requires { Holds S.beyond (S.mesh mesh.old) (S.kept mesh.old) at.old }
     ensures { (how : How) → Takes S.beyond (Moved how)

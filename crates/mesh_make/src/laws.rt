@@ -1,13 +1,12 @@
 //! What holds of the generated job. Each law is the contract of a function that does nothing.
 
 ghost use Rattle.std.specs.Prelude.{ℕ, ◌≡◌, ◌*◌, ◌↔◌, length};
-ghost use Rattle.grid_base.specs.Points.{displacement_of};
 ghost use Rattle.mesh_base.specs.Mesh.{IsLiveVertex};
 ghost use Rattle.mesh_base.specs.Valid.{IsValidSurface};
 ghost use Rattle.step_text.specs.Ranges.{IsFrom, AreInRange};
 ghost use Rattle.mesh_make.specs.Cubes.{IsRow, cubes_lists, cubes_mesh};
-ghost use Rattle.mesh_make.specs.CubeSteps.{moved_along, moved_by, cube_shift, cubes_steps};
-ghost use Rattle.mesh_make.specs.Laws.{HasNoFault, VerticesAreNumbered};
+ghost use Rattle.mesh_make.specs.CubeSteps.{moved_along, cubes_steps};
+ghost use Rattle.mesh_make.specs.Laws.{HasNoFault, VerticesAreNumbered, ShiftsMoveAsSaid};
 
 /// The cubes have eight vertices and twelve faces each. Their lists are of good shape, and make a valid surface: a mesh
 /// within its laws and limits that is closed, and no edge of which meets a face that shares no vertex with it.
@@ -21,8 +20,7 @@ pub fn cubes_make_a_valid_surface()
 
 /// Each shift of the job moves by what is said, which is from 1 to 9 along each axis.
 pub fn cubes_move_a_little()
-    ensures by { (key step number : ℕ) →
-        displacement_of (cube_shift key step number) ≡ moved_by key step number }
+    ensures by { ShiftsMoveAsSaid }
     ensures little { (key step number axis : ℕ) → IsFrom 1 9 (moved_along key step number axis) }
 {}
 

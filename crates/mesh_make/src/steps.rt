@@ -49,7 +49,7 @@ fn push_step(directives: &mut Items<Directive>, n: u8, key: u32, step: u32) -> R
 }
 
 // The directives, on no lines yet.
-fn unplaced(alloc: Global, n: u8, key: u32) -> Result<Items<Directive>, NoMemory>
+fn all_directives(alloc: Global, n: u8, key: u32) -> Result<Items<Directive>, NoMemory>
     requires { IsRow n }
     ensures { IfOk result (λ directives. directives ≡ spec.cubes_directives n key) }
 {
@@ -63,7 +63,7 @@ fn unplaced(alloc: Global, n: u8, key: u32) -> Result<Items<Directive>, NoMemory
 }
 
 // Each directive on a line of its own.
-fn placed(alloc: Global, directives: Items<Directive>) -> Result<Directives, NoMemory>
+fn on_lines(alloc: Global, directives: Items<Directive>) -> Result<Directives, NoMemory>
     requires { length directives < 2 ^ 32 }
     ensures { IfOk result (λ placed. placed ≡ spec.on_lines directives) }
 {
@@ -81,6 +81,6 @@ pub(crate) fn steps_of_cubes(alloc: Global, n: u8, key: u32) -> Result<Directive
     requires { IsRow n }
     ensures { IfOk result (λ directives. directives ≡ spec.cubes_steps n key) }
 {
-    let directives = unplaced(alloc, n, key)?;
-    placed(alloc, directives)
+    let directives = all_directives(alloc, n, key)?;
+    on_lines(alloc, directives)
 }

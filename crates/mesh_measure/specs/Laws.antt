@@ -1,10 +1,11 @@
 -- Where a volume stays the same.
 use Rattle.std.specs.Prelude.{◌≡◌, ℕ, true}
 use Rattle.grid_base.specs.Triples.{Triple, plus}
-use Rattle.mesh_base.specs.Mesh.{Mesh, IsLiveVertex}
+use Rattle.mesh_base.specs.Mesh.{Mesh, IsLiveVertex, IsSound}
+use Rattle.mesh_base.specs.Sides.{IsClosed}
 use Rattle.mesh_base.specs.Placements.{Placement}
-use Rattle.mesh_base.specs.Shifts.{Shifts, shift_at, end_in_box, NameOnce}
-use Rattle.mesh_measure.specs.Volume.{volume6_at}
+use Rattle.mesh_base.specs.Shifts.{Shifts, shift_at, with_moves, end_in_box, NameOnce}
+use Rattle.mesh_measure.specs.Volume.{volume6, volume6_at}
 
 -- the volume is the same from every origin: where the vertices stand otherwise,
 -- all by one shift, it is what it was
@@ -16,3 +17,8 @@ pub record MoveAllBy (m : Mesh) (moves : Shifts) (t : Triple) : Type 0 where
   pub once : NameOnce m moves
   pub inside : end_in_box m moves ≡ true
   pub same : (v : ℕ) → IsLiveVertex m v → shift_at moves v ≡ t
+
+-- A sound and closed mesh of which all points move by one shift has the volume that it had.
+abbrev pub VolumeStaysWhereAllMove : Type 0
+VolumeStaysWhereAllMove = (m : Mesh) (moves : Shifts) (t : Triple) → IsSound m → IsClosed m →
+    MoveAllBy m moves t → volume6 (with_moves m moves) ≡ volume6 m

@@ -20,7 +20,7 @@ use std::alloc::Global;
 use std::collections::HashSet;
 
 // The vertices to which faces lead from a vertex, itself among them.
-fn led_to<S: Surface>(alloc: Global, mesh: &S, v: VertexId) -> Result<Ids, NoMemory>
+fn reach_of<S: Surface>(alloc: Global, mesh: &S, v: VertexId) -> Result<Ids, NoMemory>
     ensures { IfOk result (λ us. (u : ℕ) →
         (is_one_of us u ≡ true) ↔ LeadsTo (S.mesh mesh.now) v u) }
 {
@@ -66,7 +66,7 @@ pub(crate) fn faces_from<S: Surface>(
         is_one_of (map.keys m.faces) f ≡ true → has_corner (corners_at m f) v ≡ true →
         faces.items ≡ class_of (share_vertex m) (map.keys m.faces) f) }
 {
-    let vertices = led_to(alloc, mesh, v)?;
+    let vertices = reach_of(alloc, mesh, v)?;
     let mut faces = faces_around(alloc, mesh, vertices.as_slice())?;
     put_in_order(&mut faces);
     Ok(faces)

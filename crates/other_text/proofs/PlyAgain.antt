@@ -20,8 +20,8 @@ use Rattle.line_text.specs.WrittenLines.{line_of_words}
 use Rattle.line_text.proofs.WrittenAgain.{IsSpelled, tests_spell}
 use Rattle.other_text.specs.declared.ply_head.Role.{Role}
 use Rattle.other_text.specs.declared.ply_head.Role.TheVariants.{X, Y, Z}
-use Rattle.other_text.specs.declared.ply_parser.Wanted.{Wanted}
-use Rattle.other_text.specs.declared.ply_parser.Wanted.TheVariants.{Format, Vertices, Properties, Corners, Others, Rows}
+use Rattle.other_text.specs.declared.ply_parser.NextLine.{NextLine}
+use Rattle.other_text.specs.declared.ply_parser.NextLine.TheVariants.{Format, Vertices, Properties, Corners, Others, Rows}
 use Rattle.obj_text.specs.Obj.{Lists}
 use Rattle.other_text.specs.Lines.{lines_add}
 use Rattle.other_text.specs.Ply.{Progress, start, name_of, format_of, element_of, property_of, corners_named, is_end, placed, coordinates_of, point_of, role_adds, property_adds, other_adds, row_adds, wanted_adds, words_add, end_gives, lists_of}
@@ -41,7 +41,7 @@ abbrev rows_from : ℕ → ℕ → Lists → Progress
 rows_from v f lists = record { wanted = Rows; roles = all_roles; x_stands = true; y_stands = true; z_stands = true; extra = 0; points_left = v; faces_left = f; lists = lists }
 
 -- within the head
-abbrev head_at : Wanted → List Role → Bool → Bool → Bool → ℕ → ℕ → Progress
+abbrev head_at : NextLine → List Role → Bool → Bool → Bool → ℕ → ℕ → Progress
 head_at wanted roles x y z v f = record { wanted = wanted; roles = roles; x_stands = x; y_stands = y; z_stands = z; extra = 0; points_left = v; faces_left = f; lists = nothing }
 
 -- ---- points

@@ -12,7 +12,7 @@ use Rattle.edit_any.specs.Dispatch.{edited}
 use Rattle.log_text.specs.declared.LogLine.{LogLine}
 use Rattle.log_text.specs.declared.LogLine.TheVariants as line
 use Rattle.pass_run.specs.declared.edits.EditTerms.{EditTerms}
-use Rattle.pass_run.specs.PassLines.{PassRules, line_of, answer_by, lines_from}
+use Rattle.pass_run.specs.PassLines.{PassRules, line_of, answer_by, lines_from, mesh_after_all}
 
 -- at its turn each is asked, whatever the mesh
 abbrev pub itself : Mesh → Asked → Option Asked
@@ -44,13 +44,27 @@ answers_from rules m (what ∷ rest) =
     ∷ (if rules.grouped && is_no answer then []
     else answers_from rules (mesh_after edited m answer) rest)
 
+-- ---- by the exact test
+
+-- the lines of edits that are asked for, from a mesh on
+abbrev pub edit_lines : EditTerms → List Asked → Mesh → List LogLine
+edit_lines terms asked m = lines_from (edits_exactly terms) m asked
+
+-- what they answer
+abbrev pub edit_answers : EditTerms → List Asked → Mesh → List Edit
+edit_answers terms asked m = answers_from (edits_exactly terms) m asked
+
+-- and the mesh that they leave
+abbrev pub edit_mesh : EditTerms → List Asked → Mesh → Mesh
+edit_mesh terms asked m = mesh_after_all (edits_exactly terms) m asked
+
+-- ---- their lines
+
 -- what a line tells that came of an edit; nothing, where it tells of none
 abbrev pub answer_in : LogLine → Option Edit
 answer_in (line.Did change) = Some (edit.Done change)
 answer_in (line.No what why) = Some (edit.No why)
 answer_in _ = None
-
--- ---- their lines
 
 -- the line of each of these edits, as far as there are answers
 abbrev pub lines_told : List Asked → List Edit → List LogLine

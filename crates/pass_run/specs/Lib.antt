@@ -6,5 +6,6 @@ pub mod Turns
 pub mod Said
 pub mod Promises
 pub mod Fits
+pub mod Calls
 pub mod Edits
 pub mod Again

@@ -121,14 +121,30 @@ pass_lines meets terms m =
 abbrev pub mesh_after_pass : (Positions → Bool) → PassTerms → Mesh → Mesh
 mesh_after_pass meets terms m = mesh_after_all (rules_of meets terms) m (candidates m terms.kind)
 
+-- by the exact test: all its lines
+abbrev pub exact_lines : PassTerms → Mesh → List LogLine
+exact_lines terms m = pass_lines meets_exactly terms m
+
+-- and the mesh after it
+abbrev pub exact_mesh : PassTerms → Mesh → Mesh
+exact_mesh terms m = mesh_after_pass meets_exactly terms m
+
 -- what a pass goes by, of its parts
 abbrev pub terms_of : PassKind → ℕ → Bool → PassTerms
 terms_of kind depth grouped = record { kind = kind; depth = depth; grouped = grouped }
 
 -- by the exact test: the lines of a pass
 abbrev pub lines_due : PassKind → ℕ → Bool → Mesh → List LogLine
-lines_due kind depth grouped m = pass_lines meets_exactly (terms_of kind depth grouped) m
+lines_due kind depth grouped m = exact_lines (terms_of kind depth grouped) m
 
--- and the mesh after it
+-- the mesh after it
 abbrev pub mesh_due : PassKind → ℕ → Bool → Mesh → Mesh
-mesh_due kind depth grouped m = mesh_after_pass meets_exactly (terms_of kind depth grouped) m
+mesh_due kind depth grouped m = exact_mesh (terms_of kind depth grouped) m
+
+-- how many of its edits are done
+abbrev pub done_due : PassKind → ℕ → Bool → Mesh → ℕ
+done_due kind depth grouped m = done_in (lines_due kind depth grouped m)
+
+-- and how many are refused
+abbrev pub refused_due : PassKind → ℕ → Bool → Mesh → ℕ
+refused_due kind depth grouped m = refused_in (lines_due kind depth grouped m)

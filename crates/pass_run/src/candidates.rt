@@ -70,7 +70,7 @@ fn pinches<S: Surface>(alloc: Global, mesh: &S) -> Result<Vec<Asked>, NoMemory>
 }
 
 /// What a pass that does not go over pairs asks, in order.
-pub(crate) fn listed<S: Surface>(
+pub(crate) fn candidates<S: Surface>(
     alloc: Global,
     mesh: &S,
     kind: PassKind,

@@ -1,16 +1,15 @@
 //! Edits that are asked for one after another.
-ghost use Rattle.std.specs.Prelude.{◌≡◌, ◌≤◌, ◌+◌, ◌++◌, [], ◌∷◌, length, IfOk, OnOk, OnErr};
+ghost use Rattle.std.specs.Prelude.{◌≡◌, ◌≤◌, ◌+◌, [], ◌∷◌, length, IfOk, OnOk, OnErr};
 ghost use Rattle.grid_base.specs.declared.TheConstants.{DEPTH_MAX};
 ghost use Rattle.mesh_base.specs.Sides.{IsClosed};
 ghost use Rattle.mesh_base.specs.Placements.{IsClearMesh};
 ghost use Rattle.mesh_base.specs.Kept.{BeginsWith};
 ghost use Rattle.edit_base.specs.Clauses.{OnOkIs, mesh_after};
 ghost use Rattle.edit_any.specs.Dispatch.{edited};
-ghost use Rattle.log_replay.specs.Replay.{at_mesh};
-ghost use Rattle.log_replay.specs.Safe.{LinesKeepTheMesh};
-ghost use Rattle.pass_run.specs.PassLines.{line_of, lines_from, mesh_after_all};
-ghost use Rattle.pass_run.specs.Results.{PassResult, exact_answer, stage};
-ghost use Rattle.pass_run.specs.Edits.{edits_exactly, answers_from, answer_in};
+ghost use Rattle.pass_run.specs.PassLines.{line_of};
+ghost use Rattle.pass_run.specs.Results.{exact_answer};
+ghost use Rattle.pass_run.specs.Edits.{edit_lines, edit_mesh, edit_answers, answer_in};
+ghost use Rattle.pass_run.specs.Calls.{PassTells, LinesKeep, Gains};
 
 use crate::passes::{PassCount, count_of, is_over, no_edit, sum};
 use crate::turns::line_of;
@@ -81,11 +80,10 @@ fn take_edit<S: Surface, O: Listener>(
     requires closed { IsClosed (S.mesh mesh.old) }
     requires clear { IsClearMesh (S.mesh mesh.old) }
     requires depth { depth ≤ DEPTH_MAX }
-    ensures takes { let old = stage S.mesh S.kept O.around mesh.old outside.old in
-        let new = stage S.mesh S.kept O.around mesh.new outside.new in
-        PassResult (line_of what.now (exact_answer depth old.mesh what.now) ∷ []) old new result }
+    ensures takes { PassTells S.mesh S.kept O.around mesh outside
+        (λ m. line_of what.now (exact_answer depth m what.now) ∷ []) result }
     ensures answers { let answer = exact_answer depth (S.mesh mesh.old) what.now in
-        OnOk result (answers.new ≡ answers.old ++ answer ∷ []) }
+        OnOk result (Gains answers (answer ∷ [])) }
     ensures sum { IfOk result (λ count. count.done + count.refused ≤ 1) }
 {
     let line = line_of_edit(alloc, mesh, depth, what)?;
@@ -119,17 +117,12 @@ pub fn edits_to<S: Surface, O: Listener>(
     requires clear { IsClearMesh (S.mesh mesh.old) }
     requires depth { terms.depth ≤ DEPTH_MAX }
     // Ok: all lines are written. A stop: the first of them, and perhaps a part of the next.
-    ensures takes { let old = stage S.mesh S.kept O.around mesh.old outside.old in
-        let new = stage S.mesh S.kept O.around mesh.new outside.new in
-        PassResult (lines_from (edits_exactly terms) old.mesh asked.now) old new result }
-    ensures mesh { let end = mesh_after_all (edits_exactly terms) (S.mesh mesh.old) asked.now in
-        OnOk result (S.mesh mesh.new ≡ end) }
-    ensures answers { let all = answers_from (edits_exactly terms) (S.mesh mesh.old) asked.now in
-        OnOk result (answers.new ≡ answers.old ++ all) }
+    ensures takes { PassTells S.mesh S.kept O.around mesh outside (edit_lines terms asked.now) result }
+    ensures mesh { OnOk result (S.mesh mesh.new ≡ edit_mesh terms asked.now (S.mesh mesh.old)) }
+    ensures answers { OnOk result (Gains answers (edit_answers terms asked.now (S.mesh mesh.old))) }
     // Each edit that the lines tell is safe, from the mesh that the lines before it make, and each line leaves a mesh that is
     // sound, closed and clear.
-    ensures motions { let m = S.mesh mesh.old in
-        LinesKeepTheMesh (at_mesh m) (lines_from (edits_exactly terms) m asked.now) }
+    ensures motions { LinesKeep (edit_lines terms asked.now) (S.mesh mesh.old) }
     ensures sum { IfOk result (λ count. count.done + count.refused ≤ length asked.now) }
 {
     let mut count = no_edit();

@@ -1,20 +1,17 @@
 //! The passes: what is asked, each at its time, and its line.
 ghost use Rattle.std.specs.Prelude.{◌≡◌, ◌≤◌, ◌<◌, ◌+◌, ◌*◌, ◌^◌, ◌&&◌, [], ◌∷◌, nat_lt, length, Some, IfOk, OnOk, IsErrOf};
 ghost use Rattle.grid_base.specs.declared.TheConstants.{DEPTH_MAX};
-ghost use Rattle.grid_decided.specs.Decided.{meets_exactly};
 ghost use Rattle.mesh_base.specs.Sides.{IsClosed};
 ghost use Rattle.mesh_base.specs.Placements.{IsClearMesh};
 ghost use Rattle.mesh_base.specs.Kept.{BeginsWith};
 ghost use Rattle.outside_io.specs.Causes.{Rose};
-ghost use Rattle.log_replay.specs.Replay.{at_mesh};
-ghost use Rattle.log_replay.specs.Safe.{LinesKeepTheMesh};
 ghost use Rattle.pass_run.specs.Candidates.{candidates};
-ghost use Rattle.pass_run.specs.PassLines.{exactly, lines_asked, lines_from, pass_lines, mesh_after_pass, lines_due, mesh_due, done_in, refused_in};
-ghost use Rattle.pass_run.specs.Results.{PassResult, exact_answer, stage};
+ghost use Rattle.pass_run.specs.PassLines.{exactly, lines_asked, lines_from, exact_lines, exact_mesh, lines_due, mesh_due, done_in, refused_in, done_due, refused_due};
+ghost use Rattle.pass_run.specs.Results.{exact_answer};
 ghost use Rattle.pass_run.specs.Turns.{TakesTurns};
-ghost use Rattle.pass_run.specs.Said.{Said};
+ghost use Rattle.pass_run.specs.Calls.{stage_before, stage_after, PassTells, LinesKeep, SinkHas};
 
-use crate::candidates::{listed, pairs_within};
+use crate::candidates::{candidates, pairs_within};
 use crate::chooser::Chooses;
 use crate::faults::PassFault;
 use crate::near_edges::{EdgeTurn, midpoints, near_pairs};
@@ -102,9 +99,8 @@ fn take_one<S: Surface, O: Listener>(
     requires closed { IsClosed (S.mesh mesh.old) }
     requires clear { IsClearMesh (S.mesh mesh.old) }
     requires depth { depth ≤ DEPTH_MAX }
-    ensures takes { let old = stage S.mesh S.kept O.around mesh.old outside.old in
-        let new = stage S.mesh S.kept O.around mesh.new outside.new in
-        PassResult (lines_asked (exact_answer depth old.mesh) call) old new result }
+    ensures takes { PassTells S.mesh S.kept O.around mesh outside
+        (λ m. lines_asked (exact_answer depth m) call) result }
     ensures sum { IfOk result (λ count. count.done + count.refused ≤ 1) }
 {
     match line_of_call(alloc, mesh, depth, call) {
@@ -129,8 +125,8 @@ pub(crate) fn take_turns<S: Surface, O: Listener, C: Chooses>(
     requires clear { IsClearMesh (S.mesh mesh.old) }
     requires depth { turns.depth ≤ DEPTH_MAX }
     requires can { C.can_choose turns.by.now }
-    ensures takes { let old = stage S.mesh S.kept O.around mesh.old outside.old in
-        let new = stage S.mesh S.kept O.around mesh.new outside.new in
+    ensures takes { let old = stage_before S.mesh S.kept O.around mesh outside in
+        let new = stage_after S.mesh S.kept O.around mesh outside in
         let t = turns.entry in
         TakesTurns (C.may_choose t.by.now) (exact_answer t.depth) t.grouped
         candidates.now old new result }
@@ -159,9 +155,8 @@ fn take_asked<S: Surface, O: Listener>(
     requires closed { IsClosed (S.mesh mesh.old) }
     requires clear { IsClearMesh (S.mesh mesh.old) }
     requires depth { terms.depth ≤ DEPTH_MAX }
-    ensures takes { let old = stage S.mesh S.kept O.around mesh.old outside.old in
-        let new = stage S.mesh S.kept O.around mesh.new outside.new in
-        PassResult (lines_from (exactly terms) old.mesh asked.now) old new result }
+    ensures takes { PassTells S.mesh S.kept O.around mesh outside
+        (λ m. lines_from (exactly terms) m asked.now) result }
     ensures sum { IfOk result (λ count. count.done + count.refused ≤ length asked.now) }
 {
     let turns = Turns {
@@ -184,10 +179,8 @@ fn take_pairs<S: Surface, O: Listener>(
     requires closed { IsClosed (S.mesh mesh.old) }
     requires clear { IsClearMesh (S.mesh mesh.old) }
     requires depth { terms.depth ≤ DEPTH_MAX }
-    ensures { let old = stage S.mesh S.kept O.around mesh.old outside.old in
-        let new = stage S.mesh S.kept O.around mesh.new outside.new in
-        let asked = candidates old.mesh terms.kind in
-        PassResult (lines_from (exactly terms) old.mesh asked) old new result }
+    ensures { PassTells S.mesh S.kept O.around mesh outside
+        (λ m. lines_from (exactly terms) m (candidates m terms.kind)) result }
 {
     let edges = edges_in_order(alloc, mesh)?;
     let edges = edges.as_slice();
@@ -221,15 +214,13 @@ fn take_all<S: Surface, O: Listener>(
     requires closed { IsClosed (S.mesh mesh.old) }
     requires clear { IsClearMesh (S.mesh mesh.old) }
     requires depth { terms.depth ≤ DEPTH_MAX }
-    ensures { let old = stage S.mesh S.kept O.around mesh.old outside.old in
-        let new = stage S.mesh S.kept O.around mesh.new outside.new in
-        let asked = candidates old.mesh terms.kind in
-        PassResult (lines_from (exactly terms) old.mesh asked) old new result }
+    ensures { PassTells S.mesh S.kept O.around mesh outside
+        (λ m. lines_from (exactly terms) m (candidates m terms.kind)) result }
 {
     match pairs_within(terms.kind) {
         Some(within) => take_pairs(alloc, mesh, terms, within, outside),
         None => {
-            let asked = listed(alloc, mesh, terms.kind)?;
+            let asked = candidates(alloc, mesh, terms.kind)?;
             take_asked(alloc, mesh, terms, asked.as_slice(), outside)
         }
     }
@@ -271,15 +262,11 @@ pub fn pass_to<S: Surface, O: Listener>(
     requires clear { IsClearMesh (S.mesh mesh.old) }
     requires depth { terms.depth ≤ DEPTH_MAX }
     // Ok: all lines are written. A stop: the first of them, and perhaps a part of the next.
-    ensures takes { let old = stage S.mesh S.kept O.around mesh.old outside.old in
-        let new = stage S.mesh S.kept O.around mesh.new outside.new in
-        PassResult (pass_lines meets_exactly terms old.mesh) old new result }
-    ensures mesh { let end = mesh_after_pass meets_exactly terms (S.mesh mesh.old) in
-        OnOk result (S.mesh mesh.new ≡ end) }
+    ensures takes { PassTells S.mesh S.kept O.around mesh outside (exact_lines terms) result }
+    ensures mesh { OnOk result (S.mesh mesh.new ≡ exact_mesh terms (S.mesh mesh.old)) }
     // Each edit that the lines tell is safe, from the mesh that the lines before it make, and each line leaves a mesh that is
     // sound, closed and clear.
-    ensures motions { let m = S.mesh mesh.old in
-        LinesKeepTheMesh (at_mesh m) (pass_lines meets_exactly terms m) }
+    ensures motions { LinesKeep (exact_lines terms) (S.mesh mesh.old) }
 {
     outside.tell(alloc, &LogLine::Pass(terms.kind))?;
     take_all(alloc, mesh, terms, outside)
@@ -298,19 +285,14 @@ pub fn pass<S: Surface, K: Sink>(
     requires clear { IsClearMesh (S.mesh mesh.old) }
     requires depth { depth ≤ DEPTH_MAX }
     // Ok: all lines are written. A fault: the first of them, and perhaps a part of the next.
-    ensures said { let lines = lines_due kind depth grouped (S.mesh mesh.old) in
-        Said (S.mesh mesh.old) (S.mesh mesh.new) (K.written out.old)
-        (K.written out.new) lines result }
+    ensures said { SinkHas S.mesh K.written mesh out (lines_due kind depth grouped) result }
     ensures mesh { OnOk result (S.mesh mesh.new ≡ mesh_due kind depth grouped (S.mesh mesh.old)) }
-    ensures done { let lines = lines_due kind depth grouped (S.mesh mesh.old) in
-        IfOk result (λ count. count.done ≡ done_in lines) }
-    ensures refused { let lines = lines_due kind depth grouped (S.mesh mesh.old) in
-        IfOk result (λ count. count.refused ≡ refused_in lines) }
+    ensures done { IfOk result (λ c. c.done ≡ done_due kind depth grouped (S.mesh mesh.old)) }
+    ensures refused { IfOk result (λ c. c.refused ≡ refused_due kind depth grouped (S.mesh mesh.old)) }
 
     // Each edit that the lines tell is safe, from the mesh that the lines before it make, and each line leaves a mesh that is
     // sound, closed and clear.
-    ensures motions { let m = S.mesh mesh.old in
-        LinesKeepTheMesh (at_mesh m) (lines_due kind depth grouped m) }
+    ensures motions { LinesKeep (lines_due kind depth grouped) (S.mesh mesh.old) }
 
     // After every answer.
     ensures closed { IsClosed (S.mesh mesh.new) }

@@ -6,8 +6,8 @@ ghost use Rattle.mesh_base.specs.Placements.{IsClearMesh};
 ghost use Rattle.mesh_base.specs.Kept.{BeginsWith};
 ghost use Rattle.mesh_sizing.specs.Sizes.{IsWellKept, MayAnswer};
 ghost use Rattle.outside_io.specs.Causes.{Rose};
-ghost use Rattle.pass_run.specs.Results.{Keeps, stage, written_at};
-ghost use Rattle.pass_run.specs.Fits.{Calls, MayCall, Fits};
+ghost use Rattle.pass_run.specs.Fits.{Calls, MayCall};
+ghost use Rattle.pass_run.specs.Calls.{FitTells, CallKeeps, SinkHasFit};
 
 use crate::candidates::splits;
 use crate::chooser::Chooses;
@@ -25,7 +25,7 @@ use outside_io::{Ends, Sink, Stop, TallyDesk};
 use std::alloc::Global;
 
 /// The edit that an edge calls for, if it stands: by its length and what the sizing says at its middle.
-fn called<S: Surface, G: Fn(Point) -> Band>(
+fn edit_called_for<S: Surface, G: Fn(Point) -> Band>(
     mesh: &S,
     sizing: &Sizing<G>,
     a: VertexId,
@@ -57,7 +57,7 @@ impl<G: Fn(Point) -> Band> Chooses for Sizing<G> {
         what: Asked,
     ) -> Result<Option<Asked>, NoMemory> {
         match what {
-            Asked::Split { a, b } => Ok(called(mesh, self, a, b)),
+            Asked::Split { a, b } => Ok(edit_called_for(mesh, self, a, b)),
             _ => Ok(None),
         }
     }
@@ -81,15 +81,9 @@ pub fn fit_to<S: Surface, O: Listener, G: Fn(Point) -> Band>(
     requires depth { turns.depth ≤ DEPTH_MAX }
     requires sizing { IsWellKept G.Fn turns.by.now }
     // Ok: all lines are written. A stop: the first of them, and perhaps a part of the next.
-    ensures fits { let old = stage S.mesh S.kept O.around mesh.old outside.old in
-        let new = stage S.mesh S.kept O.around mesh.new outside.new in
-        let t = turns.entry in
-        Fits (MayAnswer G.Fn t.by.now) t.depth t.grouped
-        old.mesh new.mesh (written_at old) (written_at new) result }
+    ensures fits { FitTells S.mesh S.kept O.around mesh outside G.Fn turns.entry result }
     // After every answer.
-    ensures keeps { let old = stage S.mesh S.kept O.around mesh.old outside.old in
-        let new = stage S.mesh S.kept O.around mesh.new outside.new in
-        Keeps old new result }
+    ensures keeps { CallKeeps S.mesh S.kept O.around mesh outside result }
 {
     outside.tell(alloc, &LogLine::PassFit)?;
     let edges = splits(alloc, mesh)?;
@@ -110,8 +104,7 @@ pub fn fit_pass<S: Surface, K: Sink, G: Fn(Point) -> Band>(
     requires depth { depth ≤ DEPTH_MAX }
     requires sizing { IsWellKept G.Fn sizing.now }
     // Ok: all lines are written. A fault: the first of them, and perhaps a part of the next.
-    ensures fits { Fits (MayAnswer G.Fn sizing.now) depth grouped
-        (S.mesh mesh.old) (S.mesh mesh.new) (K.written out.old) (K.written out.new) result }
+    ensures fits { SinkHasFit S.mesh K.written mesh out G.Fn sizing.now depth grouped result }
 
     // After every answer.
     ensures closed { IsClosed (S.mesh mesh.new) }

@@ -2,11 +2,13 @@
 use Rattle.std.specs.Prelude.{◌≡◌, Bool, true, false}
 use Rattle.mesh_base.specs.Mesh.{Mesh, IsSound}
 use Rattle.mesh_base.specs.Sides.{IsClosed}
+use Rattle.mesh_base.specs.Shifts.{Shifts, with_moves, NameOnce}
 use Rattle.edit_base.specs.declared.answers.Change.{Change}
 use Rattle.edit_base.specs.declared.answers.Change.TheVariants.{Split, Flip, Collapse, Zip, Pinch}
 use Rattle.edit_base.specs.declared.answers.Edit.TheVariants.{Done}
 use Rattle.edit_base.specs.Laws.{Answer}
 use Rattle.edit_any.specs.Dispatch.{edited}
+use Rattle.edit_any.specs.Answered.{IsAnswered}
 use Rattle.mesh_measure.specs.Shape.{components, euler}
 use Rattle.shape_laws.specs.Link.{has_two_opposites, has_plain_link}
 
@@ -29,6 +31,17 @@ keeps_shape m (Pinch v at copies) = false
 abbrev pub collapse_keeps_shape : Mesh → Change → Bool
 collapse_keeps_shape m (Collapse a b at) = has_plain_link m a b
 collapse_keeps_shape m _ = false
+
+-- where it is said of a change that an edit of a closed mesh answers, the change leaves the shape
+-- as it was
+abbrev pub ShapeStaysIf : Mesh → Change → Bool → Type 0
+ShapeStaysIf m change said =
+    said ≡ true → IsClosed m → IsAnswered m change → HaveSameShape m (edited m change)
+
+-- moves that name no vertex twice leave the shape as it was
+abbrev pub ShapeStaysOnMoves : Type 0
+ShapeStaysOnMoves =
+    (m : Mesh) (moves : Shifts) → NameOnce m moves → HaveSameShape m (with_moves m moves)
 
 -- a done edit of a sound and closed mesh, of which it is said, leaves the shape as it was
 abbrev pub ShapeStays : Answer → Type 0

@@ -1,9 +1,6 @@
 //! Whether an edit keeps the shape of a mesh.
-ghost use Rattle.std.specs.Prelude.{◌≡◌, true, IfOk};
-ghost use Rattle.mesh_base.specs.Sides.{IsClosed};
-ghost use Rattle.edit_any.specs.Dispatch.{edited};
-ghost use Rattle.edit_any.specs.Answered.{IsAnswered};
-ghost use Rattle.shape_laws.specs.Kept.{HaveSameShape, keeps_shape, collapse_keeps_shape};
+ghost use Rattle.std.specs.Prelude.{◌≡◌, IfOk};
+ghost use Rattle.shape_laws.specs.Kept.{ShapeStaysIf, keeps_shape, collapse_keeps_shape};
 
 use crate::link::{has_plain_link, has_two_opposites};
 use edit_base::Change;
@@ -15,8 +12,7 @@ use std::alloc::Global;
 /// for each flip, and for a split of an edge whose two opposite vertices are not one. False says nothing.
 pub fn keeps_shape<S: Surface>(mesh: &S, change: &Change) -> bool
     ensures exact { result ≡ keeps_shape (S.mesh mesh.now) change.now }
-    ensures kept { let m = S.mesh mesh.now in
-        result ≡ true → IsClosed m → IsAnswered m change.now → HaveSameShape m (edited m change.now) }
+    ensures kept { ShapeStaysIf (S.mesh mesh.now) change.now result }
 {
     match change {
         Change::Split { a, b, .. } => has_two_opposites(mesh, *a, *b),
@@ -36,10 +32,8 @@ pub fn collapse_keeps_shape<S: Surface>(
     mesh: &S,
     change: &Change,
 ) -> Result<bool, NoMemory>
-    ensures exact { let m = S.mesh mesh.now in
-        IfOk result (λ kept. kept ≡ collapse_keeps_shape m change.now) }
-    ensures kept { let m = S.mesh mesh.now in IfOk result (λ kept.
-        kept ≡ true → IsClosed m → IsAnswered m change.now → HaveSameShape m (edited m change.now)) }
+    ensures exact { IfOk result (λ kept. kept ≡ collapse_keeps_shape (S.mesh mesh.now) change.now) }
+    ensures kept { IfOk result (ShapeStaysIf (S.mesh mesh.now) change.now) }
 {
     match change {
         Change::Collapse { a, b, .. } => has_plain_link(alloc, mesh, *a, *b),

@@ -21,7 +21,7 @@ use Rattle.step_text.specs.declared.TheConstants.{PASSES_MAX}
 use Rattle.step_text.specs.declared.directive.Directive.{Directive}
 use Rattle.step_text.specs.declared.directive.Directive.TheVariants.{SetDepth, SetPasses, SetZones, SetHalvings, ShiftOne, ShiftAll, Drive, Solid, Step, Pass, Fit, Save, Group, Close}
 use Rattle.step_text.specs.Ranges.{IsFrom, IsPassInRange, IsInRange}
-use Rattle.step_text.specs.Steps.{set_of, shift_at, shift_one_of, shift_of, drive_or_range, drive_of, solid_of, length_of, alone, directive_of}
+use Rattle.step_text.specs.Steps.{set_of, shift_at, shift_one_of, shift_of, drive_or_range, drive_of, solid_of, length_of, without_more_words, directive_of}
 
 -- ---- numbers
 
@@ -121,8 +121,8 @@ pass_range make fits words what h =
     let b = bound (length_of words) (λ (n : ℕ). Ok (Pass (make n))) what h in
     subst IsInRange (ok_same (Pass (make b.value)) what b.after) (fits b.value (length_range words b.value b.first))
 
-alone_range : (directive : Directive) → IsInRange directive → (words : List (List ℕ)) (what : Directive) → alone directive words ≡ Ok what → IsInRange what
-unfolding alone
+alone_range : (directive : Directive) → IsInRange directive → (words : List (List ℕ)) (what : Directive) → without_more_words directive words ≡ Ok what → IsInRange what
+unfolding without_more_words
 alone_range directive r words what h =
     let b = bound (count_is 0 words) (λ (u : Unit {0}). Ok directive) what h in
     subst IsInRange (ok_same directive what b.after) r

@@ -92,8 +92,8 @@ length_of words = do
   Ok length.0
 
 -- a directive with no further word
-unfoldable pub alone : Directive → List (List ℕ) → Result Directive TextWhy
-alone directive words = do
+unfoldable pub without_more_words : Directive → List (List ℕ) → Result Directive TextWhy
+without_more_words directive words = do
   counted ← count_is 0 words
   Ok directive
 
@@ -104,19 +104,19 @@ directive_of first words =
     else if bytes_eq first (codes "shift") then shift_of words
     else if bytes_eq first (codes "drive") then drive_of words
     else if bytes_eq first (codes "solid") then solid_of words
-    else if bytes_eq first (codes "step") then alone Step words
+    else if bytes_eq first (codes "step") then without_more_words Step words
     else if bytes_eq first (codes "split")
     then (length_of words >>= λ over. Ok (Pass (pass.Split over)))
     else if bytes_eq first (codes "collapse")
     then (length_of words >>= λ under. Ok (Pass (pass.Collapse under)))
-    else if bytes_eq first (codes "flip") then alone (Pass pass.Flip) words
+    else if bytes_eq first (codes "flip") then without_more_words (Pass pass.Flip) words
     else if bytes_eq first (codes "zip")
     then (length_of words >>= λ within. Ok (Pass (pass.Zip within)))
-    else if bytes_eq first (codes "pinch") then alone (Pass pass.Pinch) words
-    else if bytes_eq first (codes "fit") then alone Fit words
-    else if bytes_eq first (codes "save") then alone Save words
-    else if bytes_eq first (codes "group") then alone Group words
-    else if bytes_eq first (codes "close") then alone Close words
+    else if bytes_eq first (codes "pinch") then without_more_words (Pass pass.Pinch) words
+    else if bytes_eq first (codes "fit") then without_more_words Fit words
+    else if bytes_eq first (codes "save") then without_more_words Save words
+    else if bytes_eq first (codes "group") then without_more_words Group words
+    else if bytes_eq first (codes "close") then without_more_words Close words
     else Err Unknown
 
 -- ---- groups and lines

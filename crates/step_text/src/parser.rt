@@ -150,9 +150,9 @@ fn length(words: Words<'_>) -> Result<u32, TextWhy>
     number_at(&mut words, 0, LENGTH_MAX)
 }
 
-#[tactic(auto, unfolding(crate::specs::Steps::alone))]
-fn alone(directive: Directive, words: Words<'_>) -> Result<Directive, TextWhy>
-    ensures { result ≡ spec.alone directive (words_left words.entry) }
+#[tactic(auto, unfolding(crate::specs::Steps::without_more_words))]
+fn without_more_words(directive: Directive, words: Words<'_>) -> Result<Directive, TextWhy>
+    ensures { result ≡ spec.without_more_words directive (words_left words.entry) }
 {
     count_is(0, words)?;
     Ok(directive)
@@ -175,7 +175,7 @@ fn directive(first: &[u8], words: Words<'_>) -> Result<Directive, TextWhy>
         return solid(words);
     }
     if is_word(first, b"step") {
-        return alone(Directive::Step, words);
+        return without_more_words(Directive::Step, words);
     }
     if is_word(first, b"split") {
         let over = length(words)?;
@@ -186,26 +186,26 @@ fn directive(first: &[u8], words: Words<'_>) -> Result<Directive, TextWhy>
         return Ok(Directive::Pass(PassKind::Collapse { under }));
     }
     if is_word(first, b"flip") {
-        return alone(Directive::Pass(PassKind::Flip), words);
+        return without_more_words(Directive::Pass(PassKind::Flip), words);
     }
     if is_word(first, b"zip") {
         let within = length(words)?;
         return Ok(Directive::Pass(PassKind::Zip { within }));
     }
     if is_word(first, b"pinch") {
-        return alone(Directive::Pass(PassKind::Pinch), words);
+        return without_more_words(Directive::Pass(PassKind::Pinch), words);
     }
     if is_word(first, b"fit") {
-        return alone(Directive::Fit, words);
+        return without_more_words(Directive::Fit, words);
     }
     if is_word(first, b"save") {
-        return alone(Directive::Save, words);
+        return without_more_words(Directive::Save, words);
     }
     if is_word(first, b"group") {
-        return alone(Directive::Group, words);
+        return without_more_words(Directive::Group, words);
     }
     if is_word(first, b"close") {
-        return alone(Directive::Close, words);
+        return without_more_words(Directive::Close, words);
     }
     Err(TextWhy::Unknown)
 }
@@ -261,7 +261,7 @@ fn add_words(
 }
 
 // The directives, where no group is open.
-fn closed(directives: Directives, groups: &[u32]) -> Result<Directives, ReadFault>
+fn check_closed(directives: Directives, groups: &[u32]) -> Result<Directives, ReadFault>
     ensures value { Gives (λ d. d) result (spec.closed_or_nesting directives groups.now) }
     ensures same { IfOk result (λ d. d ≡ directives) }
 {
@@ -293,5 +293,5 @@ pub fn read_steps(alloc: Global, bytes: &[u8]) -> Result<Directives, ReadFault>
     for line in Lines::new(bytes) {
         add_words(&mut directives, &mut groups, words(line.bytes), line.number)?;
     }
-    closed(directives, groups.as_slice())
+    check_closed(directives, groups.as_slice())
 }

@@ -33,7 +33,7 @@ loop-i-smaller g c =
     let near : x ≡ get_or fan c.loop-i.i 0 = c.index-as_slice-i.is ∙ ap (λ l. get_or l c.loop-i.i x) c.as_slice.ensures ∙ get_or_default fan c.loop-i.i x 0 below in
     let rest = rest_is m c.args.v x c.corners_at-c.result c.corners_at-c.ensures left given c.as_slice-in-loop-i.ensures c.loop-i.invariant.1 c.in_ok-left-2.left c.in_ok-left-2.ensures.left in
     let more = more_is m c.args.v x c.corners_at-c.result c.corners_at-c.ensures left given c.as_slice-in-loop-i.ensures c.loop-i.invariant.1 in
-    fewer_left touch c.args.faces.now c.args.f fan (face_ids left) c.loop-i.i c.loop-i.invariant.0 x (face_ids left) c.joined.new.fan (face_ids c.in_ok-left-2.left) near refl
+    fewer_left touch c.args.faces.now c.args.f fan (face_ids left) c.loop-i.i c.loop-i.invariant.0 x (face_ids left) c.join_fan.new.fan (face_ids c.in_ok-left-2.left) near refl
     (c.in_ok-left-2.ensures.fan ∙ ap (λ l. fan ++ l) more) (ids_are m (filter (λ y. not (touch x y)) (face_ids left)) c.in_ok-left-2.left rest) below
 
 pub loop-i-preserved : goal.loop-i-preserved
@@ -49,7 +49,7 @@ loop-i-preserved g c =
     let rest = rest_is m c.args.v x c.corners_at-c.result c.corners_at-c.ensures left given c.as_slice-in-loop-i.ensures c.loop-i.invariant.1 c.in_ok-left-2.left c.in_ok-left-2.ensures.left in
     let more = more_is m c.args.v x c.corners_at-c.result c.corners_at-c.ensures left given c.as_slice-in-loop-i.ensures c.loop-i.invariant.1 in
     let kept = filter (λ y. not (touch x y)) (face_ids left) in (
-      grown_on touch c.args.faces.now c.args.f fan (face_ids left) c.loop-i.i c.loop-i.invariant.0 x (face_ids left) c.joined.new.fan (face_ids c.in_ok-left-2.left) near refl
+      grown_on touch c.args.faces.now c.args.f fan (face_ids left) c.loop-i.i c.loop-i.invariant.0 x (face_ids left) c.join_fan.new.fan (face_ids c.in_ok-left-2.left) near refl
           (c.in_ok-left-2.ensures.fan ∙ ap (λ l. fan ++ l) more) (ids_are m kept c.in_ok-left-2.left rest) below,
       cornered_still m kept c.in_ok-left-2.left rest,
     )

@@ -3,7 +3,7 @@ use Rattle.std.specs.List.{filter, flat_map, count_by}
 use Rattle.mesh_base.proofs.MarksHold.{begins_itself}
 use Rattle.edit_zip.specs.Zip.{zip_mesh, turns, is_before}
 use Rattle.edit_zip.specs.Trying.{after_turns, left_by_turns, KeepsWhereNoneIsTaken}
-use Rattle.edit_zip.specs.declared.attempts.Tried.{Tried}
+use Rattle.edit_zip.specs.declared.attempts.Attempt.{Attempt}
 use Rattle.edit_zip.proofs.Untaken.{keeps, marks}
 use Rattle.edit_zip.proofs.InTurn.{at_end, flat_step, append_taken, append_failed}
 use Rattle.mesh_base.specs.Sides.{IsClosed}
@@ -37,7 +37,7 @@ loop-place-preserved g c =
       c.in_ok-turn.ensures.mesh ∙ ap (λ r. left_by_turns (mesh c.loop-place.mesh) s t (Ok r)) c.in-Failed.is ∙ inv.0,
       sym (append_failed m s t (f i) (flat_map f (drop (i + 1) turns)) c.loop-place.last c.in-Failed.why one)
           ∙ ap (λ ks. after_turns m s t ks c.loop-place.last) (sym (flat_step f i c.loop-place-test.true)) ∙ inv.1,
-      subst (λ (r : Tried). KeepsWhereNoneIsTaken (Ok r) (kept c.try_of_rank.new.mesh) (kept c.loop-place.mesh)) c.in-Failed.is c.in_ok-turn.ensures.kept ∙ inv.2,
+      subst (λ (r : Attempt). KeepsWhereNoneIsTaken (Ok r) (kept c.try_of_rank.new.mesh) (kept c.loop-place.mesh)) c.in-Failed.is c.in_ok-turn.ensures.kept ∙ inv.2,
     )
 
 pub try_of_rank-requires-clause-closed : goal.try_of_rank-requires-clause-closed

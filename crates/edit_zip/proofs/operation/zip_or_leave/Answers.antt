@@ -4,7 +4,7 @@ use Rattle.edit_base.specs.declared.answers.Edit.TheVariants.{Done}
 use Rattle.edit_base.specs.Edges.{edge_of}
 use Rattle.edit_zip.specs.Zip.{zip_mesh}
 use Rattle.edit_zip.specs.Trying.{left_by_turns, KeepsWhereNoneIsTaken}
-use Rattle.edit_zip.specs.declared.attempts.Tried.{Tried}
+use Rattle.edit_zip.specs.declared.attempts.Attempt.{Attempt}
 use Rattle.edit_zip.proofs.Answered.{edit_of, tried_answer}
 use Rattle.edit_zip.proofs.operation.zip_or_leave.Goals as goal
 
@@ -37,4 +37,4 @@ returns-in-Failed-clause-answer g c =
 pub returns-in-Failed-clause-kept : goal.returns-in-Failed-clause-kept
 returns-in-Failed-clause-kept g c =
     let kept = g.S.Surface.kept in
-    subst (λ (r : Tried). KeepsWhereNoneIsTaken (Ok r) (kept c.try_turns.new.mesh) (kept c.args.mesh.now)) c.in-Failed.is c.in_ok-turn.ensures.kept
+    subst (λ (r : Attempt). KeepsWhereNoneIsTaken (Ok r) (kept c.try_turns.new.mesh) (kept c.args.mesh.now)) c.in-Failed.is c.in_ok-turn.ensures.kept

@@ -12,4 +12,4 @@ returns c =
     let kept-is : kept ≡ length d.whole.now + c.args.decimals + 1 + d.up - d.down = search rules in
     let front-is : front ≡ take (min kept (length d.whole.now)) d.whole.now = search rules in
     let back-is : back ≡ take (min (kept - length front) (length d.fraction.now)) d.fraction.now = search rules in
-    c.with_zeros.ensures ∙ tenths-kept c.args.decimals (decimal_view d) kept (kept - length front) c.followed.result c.followed-number.result front back c.requires.fits kept-is front-is refl back-is c.followed.ensures c.followed-number.ensures
+    c.with_zeros.ensures ∙ tenths-kept c.args.decimals (decimal_view d) kept (kept - length front) c.number_after.result c.number_after-number.result front back c.requires.fits kept-is front-is refl back-is c.number_after.ensures c.number_after-number.ensures

@@ -1,6 +1,6 @@
 use Rattle.std.proofs.Common.{◌≡◌, length}
 use Rattle.mesh_make.specs.CubeSteps.{on_lines}
-use Rattle.mesh_make.proofs.steps.placed.Given as goal
+use Rattle.mesh_make.proofs.steps.on_lines.Given as goal
 
 abbrev pub invariant-loop-what : goal.invariant-loop-what
 invariant-loop-what l = record {

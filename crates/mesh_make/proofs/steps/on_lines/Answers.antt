@@ -2,7 +2,7 @@ use Rattle.std.proofs.Common.{◌≡◌, ◌+◌, ◌++◌, ◌∷◌, [], List,
 use Rattle.std.proofs.lemmas.List.{length-append}
 use Rattle.step_text.specs.declared.Placed.{Placed}
 use Rattle.mesh_make.proofs.Growing.{on_lines_more}
-use Rattle.mesh_make.proofs.steps.placed.Goals as goal
+use Rattle.mesh_make.proofs.steps.on_lines.Goals as goal
 
 pub loop-what-preserved : goal.loop-what-preserved
 loop-what-preserved c =

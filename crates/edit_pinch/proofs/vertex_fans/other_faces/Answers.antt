@@ -1,7 +1,7 @@
 use Rattle.std.proofs.Common.{◌≡◌, map, subst, ◌∙◌}
 use Rattle.std.specs.Prelude.{IfOk}
 use Rattle.edit_pinch.specs.Parting.{cornered}
-use Rattle.edit_pinch.proofs.vertex_fans.others_cornered.Goals as goal
+use Rattle.edit_pinch.proofs.vertex_fans.other_faces.Goals as goal
 
 pub returns : goal.returns
 returns g c =

@@ -1,7 +1,7 @@
 use Rattle.std.proofs.Common.{◌≡◌, None, sym, ap, ◌∙◌}
 use Rattle.edit_collapse.specs.Tried.{two_in}
 use Rattle.edit_collapse.proofs.Lists.{still}
-use Rattle.edit_collapse.proofs.cancellation.cancelled.Goals as goal
+use Rattle.edit_collapse.proofs.cancellation.cancel_opposites.Goals as goal
 
 pub returns-in-None : goal.returns-in-None
 returns-in-None c =

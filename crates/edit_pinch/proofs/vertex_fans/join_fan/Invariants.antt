@@ -1,7 +1,7 @@
 use Rattle.std.proofs.Common.{◌≡◌, ◌++◌, not, drop}
 use Rattle.std.specs.List.{filter}
 use Rattle.edit_pinch.specs.Parting.{share_other, face_ids}
-use Rattle.edit_pinch.proofs.vertex_fans.joined.Given as goal
+use Rattle.edit_pinch.proofs.vertex_fans.join_fan.Given as goal
 
 -- those so far, and those of the faces that are left, are all
 abbrev pub invariant-loop-e : goal.invariant-loop-e

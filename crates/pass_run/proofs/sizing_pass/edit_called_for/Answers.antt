@@ -7,7 +7,7 @@ use Rattle.mesh_sizing.specs.Sizes.{MayAnswer}
 use Rattle.mesh_sizing.specs.declared.sizing.Want.TheVariants.{Split, Collapse, Leave}
 use Rattle.pass_run.proofs.Squares.{square_not_negative}
 use Rattle.pass_run.proofs.Fitted.{calls_it, called_where, nothing_called, middle_is}
-use Rattle.pass_run.proofs.sizing_pass.called.Goals as goal
+use Rattle.pass_run.proofs.sizing_pass.edit_called_for.Goals as goal
 
 pub want-requires-clause-square : goal.want-requires-clause-square
 want-requires-clause-square g c =

@@ -4,7 +4,7 @@ use Rattle.mesh_base.specs.declared.ids.Corners.{Corners}
 use Rattle.pair_scan.proofs.Lists.{ended}
 use Rattle.edit_pinch.specs.Parting.{share_other, face_ids}
 use Rattle.edit_pinch.proofs.Growing.{next_kept, next_made, turned}
-use Rattle.edit_pinch.proofs.vertex_fans.joined.Goals as goal
+use Rattle.edit_pinch.proofs.vertex_fans.join_fan.Goals as goal
 
 pub loop-e-preserved : goal.loop-e-preserved
 loop-e-preserved c =
