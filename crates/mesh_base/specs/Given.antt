@@ -4,6 +4,7 @@ use Rattle.std.specs.List.{enumerate_from}
 use Rattle.std.specs.FinMap as finite
 use Rattle.grid_base.specs.declared.Point.{Point}
 use Rattle.mesh_base.specs.Mesh.{Mesh}
+use Rattle.mesh_base.specs.declared.lists.MeshLists.{MeshLists}
 use Rattle.mesh_base.specs.declared.limits.Scale.{Scale}
 use Rattle.mesh_base.specs.declared.limits.Scale.TheVariants.{Standard}
 use Rattle.mesh_base.specs.Limits.{standard, limits_of}
@@ -38,3 +39,7 @@ mesh_under scale points faces = record {
 -- the same, with standard limits
 abbrev pub mesh_of : List Point → Faces → Mesh
 mesh_of points faces = mesh_under Standard points faces
+
+-- the mesh that lists give, with the limits of a scale
+abbrev pub listed_mesh : Scale → MeshLists → Mesh
+listed_mesh scale lists = mesh_under scale lists.points lists.faces
