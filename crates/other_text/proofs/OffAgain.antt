@@ -16,7 +16,7 @@ use Rattle.mesh_plain.proofs.Lists.{none_of, few, no_fault_but_balance}
 use Rattle.line_text.specs.Texts.{numbered_lines}
 use Rattle.line_text.specs.WrittenLines.{line_of_words}
 use Rattle.line_text.proofs.WrittenAgain.{IsSpelled, tests_spell}
-use Rattle.other_text.specs.declared.off_parser.Wanted.TheVariants.{Counts, Rows}
+use Rattle.other_text.specs.declared.off_parser.LineKind.TheVariants.{Counts, Rows}
 use Rattle.obj_text.specs.Obj.{Lists}
 use Rattle.other_text.specs.Off.{Progress, start, name_of, counts_of, row_adds, wanted_adds, words_add, end_gives, lists_of}
 use Rattle.other_text.specs.Lines.{lines_add}

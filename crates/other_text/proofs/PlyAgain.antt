@@ -20,11 +20,11 @@ use Rattle.line_text.specs.WrittenLines.{line_of_words}
 use Rattle.line_text.proofs.WrittenAgain.{IsSpelled, tests_spell}
 use Rattle.other_text.specs.declared.ply_head.Role.{Role}
 use Rattle.other_text.specs.declared.ply_head.Role.TheVariants.{X, Y, Z}
-use Rattle.other_text.specs.declared.ply_parser.Wanted.{Wanted}
-use Rattle.other_text.specs.declared.ply_parser.Wanted.TheVariants.{Format, Vertices, Properties, Corners, Others, Rows}
+use Rattle.other_text.specs.declared.ply_parser.LineKind.{LineKind}
+use Rattle.other_text.specs.declared.ply_parser.LineKind.TheVariants.{Format, Vertices, Properties, Corners, Others, Rows}
 use Rattle.obj_text.specs.Obj.{Lists}
 use Rattle.other_text.specs.Lines.{lines_add}
-use Rattle.other_text.specs.Ply.{Progress, start, name_of, format_of, element_of, property_of, corners_named, is_end, placed, coordinates_of, point_of, role_adds, property_adds, other_adds, row_adds, wanted_adds, words_add, end_gives, lists_of}
+use Rattle.other_text.specs.Ply.{Progress, start, name_of, format_of, element_of, property_of, corners_named, is_end, with_coordinate, coordinates_of, point_of, role_adds, property_adds, other_adds, row_adds, wanted_adds, words_add, end_gives, lists_of}
 use Rattle.other_text.specs.Rows.{has_words, sized_ring_of, face_of}
 use Rattle.other_text.specs.OffWritten.{point_words, face_words}
 use Rattle.other_text.specs.PlyWritten.{ply_text}
@@ -41,7 +41,7 @@ abbrev rows_from : ℕ → ℕ → Lists → Progress
 rows_from v f lists = record { wanted = Rows; roles = all_roles; x_stands = true; y_stands = true; z_stands = true; extra = 0; points_left = v; faces_left = f; lists = lists }
 
 -- within the head
-abbrev head_at : Wanted → List Role → Bool → Bool → Bool → ℕ → ℕ → Progress
+abbrev head_at : LineKind → List Role → Bool → Bool → Bool → ℕ → ℕ → Progress
 head_at wanted roles x y z v f = record { wanted = wanted; roles = roles; x_stands = x; y_stands = y; z_stands = z; extra = 0; points_left = v; faces_left = f; lists = nothing }
 
 -- ---- points
@@ -52,7 +52,7 @@ module _ (decimals : ℕ) (places : decimals ≤ DECIMALS_MAX) (count : ℕ) whe
   three_words a b c = refl
 
   point_again : (p : Point) → point_of decimals all_roles (point_words decimals (position_of p)) ≡ Ok (position_of p)
-  unfolding point_of coordinates_of placed
+  unfolding point_of coordinates_of with_coordinate
   point_again p = rw (three_words (fixed_text decimals p.x) (fixed_text decimals p.y) (fixed_text decimals p.z), coordinate_again decimals places p.x p.in_box.x_fits, coordinate_again decimals places p.y p.in_box.y_fits, coordinate_again decimals places p.z p.in_box.z_fits) refl
 
   point_adds : (p : Point) → PointAdds (words_add decimals) rows_from decimals count p

@@ -7,15 +7,15 @@ use Rattle.line_text.specs.declared.fault.TextFault.{TextFault}
 use Rattle.line_text.specs.Faults.{◌>>=◌}
 use Rattle.line_text.specs.Texts.{numbered_lines}
 use Rattle.obj_text.specs.Obj.{Lists, fan}
-use Rattle.other_text.specs.declared.off_parser.Wanted.{Wanted}
-use Rattle.other_text.specs.declared.off_parser.Wanted.TheVariants.{Name, Counts, Rows}
+use Rattle.other_text.specs.declared.off_parser.LineKind.{LineKind}
+use Rattle.other_text.specs.declared.off_parser.LineKind.TheVariants.{Name, Counts, Rows}
 use Rattle.other_text.specs.Lines.{lines_add}
 use Rattle.other_text.specs.Rows.{count_of, point_of, face_of}
 
 -- what the next line with words has to be, how many rows are left once the
 -- counts were read, and the lists so far
 pub record Progress : Type 0 where
-  pub wanted : Wanted
+  pub wanted : LineKind
   pub points_left : ℕ
   pub faces_left : ℕ
   pub lists : Lists
@@ -70,7 +70,7 @@ row_adds decimals p words =
     })
 
 -- by what is wanted
-unfoldable pub wanted_adds : Wanted → ℕ → Progress → List (List ℕ) → Result Progress TextWhy
+unfoldable pub wanted_adds : LineKind → ℕ → Progress → List (List ℕ) → Result Progress TextWhy
 wanted_adds Name decimals p words =
     name_of words
     >>= λ _.
@@ -93,7 +93,7 @@ words_add decimals p [] = Ok p
 words_add decimals p (word ∷ words) = wanted_adds p.wanted decimals p (word ∷ words)
 
 -- the lists at the end of the text, whose last row must have been read; else Short at this line
-abbrev pub lists_by : Wanted → Progress → ℕ → Result Lists TextFault
+abbrev pub lists_by : LineKind → Progress → ℕ → Result Lists TextFault
 lists_by Name p line = Err (record { line = line; why = Short })
 lists_by Counts p line = Err (record { line = line; why = Short })
 lists_by Rows p line =

@@ -12,8 +12,8 @@ use Rattle.line_text.specs.Texts.{numbered_lines}
 use Rattle.obj_text.specs.Obj.{Lists, fan}
 use Rattle.other_text.specs.declared.ply_head.Role.{Role}
 use Rattle.other_text.specs.declared.ply_head.Role.TheVariants.{X, Y, Z, Other}
-use Rattle.other_text.specs.declared.ply_parser.Wanted.{Wanted}
-use Rattle.other_text.specs.declared.ply_parser.Wanted.TheVariants.{Name, Format, Vertices, Properties, Corners, Others, Rows}
+use Rattle.other_text.specs.declared.ply_parser.LineKind.{LineKind}
+use Rattle.other_text.specs.declared.ply_parser.LineKind.TheVariants.{Name, Format, Vertices, Properties, Corners, Others, Rows}
 use Rattle.other_text.specs.Lines.{lines_add}
 use Rattle.other_text.specs.Rows.{count_of, face_of}
 
@@ -103,21 +103,21 @@ is_end (word ∷ other ∷ others) = false
 -- ---- rows
 
 -- the triple with the coordinate that a word gives, by the role of its property
-unfoldable pub placed : ℕ → Role → List ℕ → Triple → Result Triple TextWhy
-placed decimals X word t =
+unfoldable pub with_coordinate : ℕ → Role → List ℕ → Triple → Result Triple TextWhy
+with_coordinate decimals X word t =
     coordinate_of decimals word >>= λ x. Ok (record { x = x; y = t.y; z = t.z })
-placed decimals Y word t =
+with_coordinate decimals Y word t =
     coordinate_of decimals word >>= λ y. Ok (record { x = t.x; y = y; z = t.z })
-placed decimals Z word t =
+with_coordinate decimals Z word t =
     coordinate_of decimals word >>= λ z. Ok (record { x = t.x; y = t.y; z = z })
-placed decimals Other word t = Ok t
+with_coordinate decimals Other word t = Ok t
 
 -- a word for each property, from left to right
 unfoldable pub coordinates_of : ℕ → List Role → List (List ℕ) → Triple → Result Triple TextWhy
 coordinates_of decimals [] words t = Ok t
 coordinates_of decimals (role ∷ roles) [] t = Err Short
 coordinates_of decimals (role ∷ roles) (word ∷ words) t =
-    placed decimals role word t >>= λ more. coordinates_of decimals roles words more
+    with_coordinate decimals role word t >>= λ more. coordinates_of decimals roles words more
 
 -- one word for each property
 unfoldable pub point_of : ℕ → List Role → List (List ℕ) → Result Triple TextWhy
@@ -131,7 +131,7 @@ point_of decimals roles words =
 -- coordinates stand among them; how many properties faces have besides their corners; how many
 -- rows are left; and the lists so far
 pub record Progress : Type 0 where
-  pub wanted : Wanted
+  pub wanted : LineKind
   pub roles : List Role
   pub x_stands : Bool
   pub y_stands : Bool
@@ -214,7 +214,7 @@ row_adds decimals p words =
     })
 
 -- whether remarks may stand here
-abbrev pub is_head : Wanted → Bool
+abbrev pub is_head : LineKind → Bool
 is_head Name = false
 is_head Format = true
 is_head Vertices = true
@@ -224,7 +224,7 @@ is_head Others = true
 is_head Rows = false
 
 -- by what is wanted
-unfoldable pub wanted_adds : Wanted → ℕ → Progress → List (List ℕ) → Result Progress TextWhy
+unfoldable pub wanted_adds : LineKind → ℕ → Progress → List (List ℕ) → Result Progress TextWhy
 wanted_adds Name decimals p words = name_of words >>= λ _. Ok (record p { wanted = Format })
 wanted_adds Format decimals p words = format_of words >>= λ _. Ok (record p { wanted = Vertices })
 wanted_adds Vertices decimals p words =
@@ -244,7 +244,7 @@ words_add decimals p (word ∷ words) =
     else wanted_adds p.wanted decimals p (word ∷ words)
 
 -- whether a text may end where this is expected: no row is left
-abbrev pub is_done : Wanted → Progress → Bool
+abbrev pub is_done : LineKind → Progress → Bool
 is_done Name p = false
 is_done Format p = false
 is_done Vertices p = false

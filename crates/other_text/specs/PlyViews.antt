@@ -4,11 +4,11 @@ use Rattle.line_text.specs.declared.fault.TextWhy.{TextWhy}
 use Rattle.line_text.specs.declared.fault.ReadFault.{ReadFault}
 use Rattle.line_text.specs.Faults.{Leaves, at_line}
 use Rattle.obj_text.specs.Views.{lists_view}
-use Rattle.other_text.specs.declared.ply_parser.Reading.{Reading}
+use Rattle.other_text.specs.declared.ply_parser.ParserState.{ParserState}
 use Rattle.other_text.specs.Ply.{Progress}
 
 -- how far the text was read
-abbrev pub progress_of : Reading → Progress
+abbrev pub progress_of : ParserState → Progress
 progress_of r = record {
   wanted = r.wanted;
   roles = r.roles;
@@ -22,11 +22,11 @@ progress_of r = record {
 }
 
 -- what a function left is what a line makes of how far the text was read before
-abbrev pub GoesOn : {X : Type 0} → Reading → Reading → Result X ReadFault → ℕ →
+abbrev pub GoesOn : {X : Type 0} → ParserState → ParserState → Result X ReadFault → ℕ →
     (Progress → Result Progress TextWhy) → Type 0
 GoesOn old new result line adds =
     Leaves (progress_of new) result (at_line line (adds (progress_of old)))
 
 -- how many properties the head named
-abbrev pub properties_of : Reading → ℕ
+abbrev pub properties_of : ParserState → ℕ
 properties_of r = length r.roles + r.extra

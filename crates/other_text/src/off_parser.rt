@@ -14,7 +14,7 @@ use std::alloc::Global;
 
 // What the next line with words has to be.
 #[derive(Clone, Copy)]
-pub(crate) enum Wanted {
+pub(crate) enum LineKind {
     // The word OFF.
     Name,
     // How many vertices and faces there are.
@@ -25,8 +25,8 @@ pub(crate) enum Wanted {
 
 // How far a text was read.
 #[derive(Drop)]
-pub(crate) struct Reading {
-    wanted: Wanted,
+pub(crate) struct ParserState {
+    wanted: LineKind,
     points_left: u64,
     faces_left: u64,
     lists: MeshLists,
@@ -71,7 +71,7 @@ fn counts(words: Words<'_>) -> Result<(u64, u64), TextWhy>
 // Adds a row.
 #[tactic(auto, unfolding(crate::specs::Off::row_adds))]
 fn add_row(
-    reading: &mut Reading,
+    reading: &mut ParserState,
     decimals: u8,
     words: Words<'_>,
     line: u32,
@@ -104,7 +104,7 @@ fn add_row(
 // Reads a line of one word or more.
 #[tactic(auto, unfolding(crate::specs::Off::wanted_adds))]
 fn add_wanted(
-    reading: &mut Reading,
+    reading: &mut ParserState,
     decimals: u8,
     words: Words<'_>,
     line: u32,
@@ -114,29 +114,34 @@ fn add_wanted(
         (λ p. spec.wanted_adds p.wanted decimals p (words_left words.entry)) }
 {
     match reading.wanted {
-        Wanted::Name => match name(words) {
+        LineKind::Name => match name(words) {
             Err(why) => Err(ReadFault::Text(TextFault { line, why })),
             Ok(()) => {
-                reading.wanted = Wanted::Counts;
+                reading.wanted = LineKind::Counts;
                 Ok(())
             }
         },
-        Wanted::Counts => match counts(words) {
+        LineKind::Counts => match counts(words) {
             Err(why) => Err(ReadFault::Text(TextFault { line, why })),
             Ok((v, f)) => {
-                reading.wanted = Wanted::Rows;
+                reading.wanted = LineKind::Rows;
                 reading.points_left = v;
                 reading.faces_left = f;
                 Ok(())
             }
         },
-        Wanted::Rows => add_row(reading, decimals, words, line),
+        LineKind::Rows => add_row(reading, decimals, words, line),
     }
 }
 
 // Reads a line.
 #[tactic(auto, unfolding(crate::specs::Off::words_add))]
-fn add_line(reading: &mut Reading, decimals: u8, bytes: &[u8], line: u32) -> Result<(), ReadFault>
+fn add_line(
+    reading: &mut ParserState,
+    decimals: u8,
+    bytes: &[u8],
+    line: u32,
+) -> Result<(), ReadFault>
     requires { decimals ≤ DECIMALS_MAX }
     ensures { GoesOn reading.old reading.new result line
         (λ p. spec.words_add decimals p (words_of bytes.now)) }
@@ -151,14 +156,14 @@ fn add_line(reading: &mut Reading, decimals: u8, bytes: &[u8], line: u32) -> Res
 
 // What a text of so many lines gives.
 #[tactic(auto, unfolding(crate::specs::Off::end_gives))]
-fn end(reading: Reading, count: u32) -> Result<MeshLists, ReadFault>
+fn end(reading: ParserState, count: u32) -> Result<MeshLists, ReadFault>
     requires { count ≤ TEXT_MAX }
     ensures { Gives lists_view result (spec.end_gives count (progress_of reading)) }
 {
     let done = match reading.wanted {
-        Wanted::Name => false,
-        Wanted::Counts => false,
-        Wanted::Rows => reading.points_left == 0 && reading.faces_left == 0,
+        LineKind::Name => false,
+        LineKind::Counts => false,
+        LineKind::Rows => reading.points_left == 0 && reading.faces_left == 0,
     };
     if done {
         return Ok(reading.lists);
@@ -190,8 +195,8 @@ pub fn read_off(alloc: Global, bytes: &[u8], decimals: u8) -> Result<MeshLists, 
     requires places { decimals ≤ DECIMALS_MAX }
     ensures { Gives lists_view result (spec.lists_of decimals bytes.now) }
 {
-    let mut reading = Reading {
-        wanted: Wanted::Name,
+    let mut reading = ParserState {
+        wanted: LineKind::Name,
         points_left: 0,
         faces_left: 0,
         lists: MeshLists {

@@ -19,7 +19,7 @@ use std::alloc::Global;
 
 // What the next line with words has to be, but for remarks.
 #[derive(Clone, Copy)]
-pub(crate) enum Wanted {
+pub(crate) enum LineKind {
     // The word ply.
     Name,
     Format,
@@ -37,8 +37,8 @@ pub(crate) enum Wanted {
 
 // How far a text was read.
 #[derive(Drop)]
-pub(crate) struct Reading {
-    wanted: Wanted,
+pub(crate) struct ParserState {
+    wanted: LineKind,
     roles: Items<Role>,
     x_stands: bool,
     y_stands: bool,
@@ -50,10 +50,11 @@ pub(crate) struct Reading {
 }
 
 // The point with the coordinate that a word gives, by the role of its property.
-#[tactic(auto, unfolding(crate::specs::Ply::placed))]
-fn placed(role: Role, word: &[u8], p: Point, decimals: u8) -> Result<Point, TextWhy>
+#[tactic(auto, unfolding(crate::specs::Ply::with_coordinate))]
+fn with_coordinate(role: Role, word: &[u8], p: Point, decimals: u8) -> Result<Point, TextWhy>
     requires { decimals ≤ DECIMALS_MAX }
-    ensures { GivesWhy position_of result (spec.placed decimals role word.now (position_of p)) }
+    ensures { GivesWhy position_of result
+        (spec.with_coordinate decimals role word.now (position_of p)) }
 {
     match role {
         Role::X => {
@@ -89,7 +90,7 @@ fn coordinates(
         let Some(word) = words.next() else {
             return Err(TextWhy::Short);
         };
-        match placed(*role, word, p, decimals) {
+        match with_coordinate(*role, word, p, decimals) {
             Err(why) => return Err(why),
             Ok(next) => p = next,
         }
@@ -112,7 +113,7 @@ fn point(roles: &[Role], words: Words<'_>, decimals: u8) -> Result<Point, TextWh
 // Adds a row.
 #[tactic(auto, unfolding(crate::specs::Ply::row_adds))]
 fn add_row(
-    reading: &mut Reading,
+    reading: &mut ParserState,
     decimals: u8,
     words: Words<'_>,
     line: u32,
@@ -145,7 +146,7 @@ fn add_row(
 }
 
 // Whether a property of this role stands already that may stand once.
-fn stands(reading: &Reading, role: Role) -> bool
+fn stands(reading: &ParserState, role: Role) -> bool
     ensures { result ≡ spec.stands (progress_of reading.now) role }
 {
     match role {
@@ -158,7 +159,7 @@ fn stands(reading: &Reading, role: Role) -> bool
 
 // Adds a property of vertices.
 #[tactic(auto, unfolding(crate::specs::Ply::role_adds))]
-fn add_role(reading: &mut Reading, role: Role, line: u32) -> Result<(), ReadFault>
+fn add_role(reading: &mut ParserState, role: Role, line: u32) -> Result<(), ReadFault>
     ensures value { GoesOn reading.old reading.new result line (λ p. spec.role_adds p role) }
     ensures more { properties_of reading.new ≤ properties_of reading.old + 1 }
 {
@@ -180,7 +181,7 @@ fn add_role(reading: &mut Reading, role: Role, line: u32) -> Result<(), ReadFaul
 
 // Reads a line of one word or more after the count of vertices.
 #[tactic(auto, unfolding(crate::specs::Ply::property_adds))]
-fn add_property(reading: &mut Reading, words: Words<'_>, line: u32) -> Result<(), ReadFault>
+fn add_property(reading: &mut ParserState, words: Words<'_>, line: u32) -> Result<(), ReadFault>
     ensures value { GoesOn reading.old reading.new result line
         (λ p. spec.property_adds p (words_left words.entry)) }
     ensures more { properties_of reading.new ≤ properties_of reading.old + 1 }
@@ -191,7 +192,7 @@ fn add_property(reading: &mut Reading, words: Words<'_>, line: u32) -> Result<()
                 Err(why) => Err(ReadFault::Text(TextFault { line, why })),
                 Ok(n) => {
                     reading.faces_left = n;
-                    reading.wanted = Wanted::Corners;
+                    reading.wanted = LineKind::Corners;
                     Ok(())
                 }
             };
@@ -219,14 +220,14 @@ fn is_first(text: &[u8], words: Words<'_>) -> bool
 
 // Reads a line after the property of a face's corners.
 #[tactic(auto, unfolding(crate::specs::Ply::other_adds))]
-fn add_other(reading: &mut Reading, words: Words<'_>, line: u32) -> Result<(), ReadFault>
+fn add_other(reading: &mut ParserState, words: Words<'_>, line: u32) -> Result<(), ReadFault>
     requires few { reading.old.extra < 2 ^ 32 }
     ensures value { GoesOn reading.old reading.new result line
         (λ p. spec.other_adds p (words_left words.entry)) }
     ensures more { properties_of reading.new ≤ properties_of reading.old + 1 }
 {
     if is_end(words) {
-        reading.wanted = Wanted::Rows;
+        reading.wanted = LineKind::Rows;
         return Ok(());
     }
     match property(words) {
@@ -241,7 +242,7 @@ fn add_other(reading: &mut Reading, words: Words<'_>, line: u32) -> Result<(), R
 // Reads a line of one word or more, which is no remark.
 #[tactic(auto, unfolding(crate::specs::Ply::wanted_adds))]
 fn add_wanted(
-    reading: &mut Reading,
+    reading: &mut ParserState,
     decimals: u8,
     words: Words<'_>,
     line: u32,
@@ -253,58 +254,63 @@ fn add_wanted(
     ensures more { properties_of reading.new ≤ properties_of reading.old + 1 }
 {
     match reading.wanted {
-        Wanted::Name => match name(words) {
+        LineKind::Name => match name(words) {
             Err(why) => Err(ReadFault::Text(TextFault { line, why })),
             Ok(()) => {
-                reading.wanted = Wanted::Format;
+                reading.wanted = LineKind::Format;
                 Ok(())
             }
         },
-        Wanted::Format => match format(words) {
+        LineKind::Format => match format(words) {
             Err(why) => Err(ReadFault::Text(TextFault { line, why })),
             Ok(()) => {
-                reading.wanted = Wanted::Vertices;
+                reading.wanted = LineKind::Vertices;
                 Ok(())
             }
         },
-        Wanted::Vertices => match element(b"vertex", words) {
+        LineKind::Vertices => match element(b"vertex", words) {
             Err(why) => Err(ReadFault::Text(TextFault { line, why })),
             Ok(n) => {
                 reading.points_left = n;
-                reading.wanted = Wanted::Properties;
+                reading.wanted = LineKind::Properties;
                 Ok(())
             }
         },
-        Wanted::Properties => add_property(reading, words, line),
-        Wanted::Corners => match corners_named(words) {
+        LineKind::Properties => add_property(reading, words, line),
+        LineKind::Corners => match corners_named(words) {
             Err(why) => Err(ReadFault::Text(TextFault { line, why })),
             Ok(()) => {
-                reading.wanted = Wanted::Others;
+                reading.wanted = LineKind::Others;
                 Ok(())
             }
         },
-        Wanted::Others => add_other(reading, words, line),
-        Wanted::Rows => add_row(reading, decimals, words, line),
+        LineKind::Others => add_other(reading, words, line),
+        LineKind::Rows => add_row(reading, decimals, words, line),
     }
 }
 
-fn is_head(wanted: Wanted) -> bool
+fn is_head(wanted: LineKind) -> bool
     ensures { result ≡ spec.is_head wanted }
 {
     match wanted {
-        Wanted::Name => false,
-        Wanted::Format => true,
-        Wanted::Vertices => true,
-        Wanted::Properties => true,
-        Wanted::Corners => true,
-        Wanted::Others => true,
-        Wanted::Rows => false,
+        LineKind::Name => false,
+        LineKind::Format => true,
+        LineKind::Vertices => true,
+        LineKind::Properties => true,
+        LineKind::Corners => true,
+        LineKind::Others => true,
+        LineKind::Rows => false,
     }
 }
 
 // Reads a line.
 #[tactic(auto, unfolding(crate::specs::Ply::words_add))]
-fn add_line(reading: &mut Reading, decimals: u8, bytes: &[u8], line: u32) -> Result<(), ReadFault>
+fn add_line(
+    reading: &mut ParserState,
+    decimals: u8,
+    bytes: &[u8],
+    line: u32,
+) -> Result<(), ReadFault>
     requires places { decimals ≤ DECIMALS_MAX }
     requires few { properties_of reading.old < 2 ^ 32 }
     ensures value { GoesOn reading.old reading.new result line
@@ -322,23 +328,23 @@ fn add_line(reading: &mut Reading, decimals: u8, bytes: &[u8], line: u32) -> Res
     add_wanted(reading, decimals, all, line)
 }
 
-fn is_done(reading: &Reading) -> bool
+fn is_done(reading: &ParserState) -> bool
     ensures { result ≡ spec.is_done reading.now.wanted (progress_of reading.now) }
 {
     match reading.wanted {
-        Wanted::Name => false,
-        Wanted::Format => false,
-        Wanted::Vertices => false,
-        Wanted::Properties => false,
-        Wanted::Corners => false,
-        Wanted::Others => false,
-        Wanted::Rows => reading.points_left == 0 && reading.faces_left == 0,
+        LineKind::Name => false,
+        LineKind::Format => false,
+        LineKind::Vertices => false,
+        LineKind::Properties => false,
+        LineKind::Corners => false,
+        LineKind::Others => false,
+        LineKind::Rows => reading.points_left == 0 && reading.faces_left == 0,
     }
 }
 
 // What a text of so many lines gives.
 #[tactic(auto, unfolding(crate::specs::Ply::end_gives))]
-fn end(reading: Reading, count: u32) -> Result<MeshLists, ReadFault>
+fn end(reading: ParserState, count: u32) -> Result<MeshLists, ReadFault>
     requires { count ≤ TEXT_MAX }
     ensures { Gives lists_view result (spec.end_gives count (progress_of reading)) }
 {
@@ -371,8 +377,8 @@ pub fn read_ply(alloc: Global, bytes: &[u8], decimals: u8) -> Result<MeshLists, 
     requires places { decimals ≤ DECIMALS_MAX }
     ensures { Gives lists_view result (spec.lists_of decimals bytes.now) }
 {
-    let mut reading = Reading {
-        wanted: Wanted::Name,
+    let mut reading = ParserState {
+        wanted: LineKind::Name,
         roles: Items::new(alloc),
         x_stands: false,
         y_stands: false,
