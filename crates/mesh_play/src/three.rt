@@ -32,7 +32,8 @@ pub fn play_three(
 ) -> Result<ThreeAnswers, NoMemory>
     requires shape { HaveGoodShape scale lists.now }
     requires lawful { AreLawful (start_of (listed_mesh scale lists.now)) calls.now }
-    ensures plain { IfOk result (λ it. it.plain ≡ answers_in (listed_mesh scale lists.now) calls.now) }
+    ensures plain { IfOk result
+        (λ it. it.plain ≡ answers_in (listed_mesh scale lists.now) calls.now) }
     ensures half { IfOk result (λ it. it.half ≡ it.plain) }
     ensures journal { IfOk result (λ it. it.journal ≡ it.plain) }
 {
