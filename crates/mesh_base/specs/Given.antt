@@ -7,7 +7,7 @@ use Rattle.mesh_base.specs.Mesh.{Mesh}
 use Rattle.mesh_base.specs.declared.lists.MeshLists.{MeshLists}
 use Rattle.mesh_base.specs.declared.limits.Scale.{Scale}
 use Rattle.mesh_base.specs.declared.limits.Scale.TheVariants.{Standard}
-use Rattle.mesh_base.specs.Limits.{standard, limits_of}
+use Rattle.mesh_base.specs.Limits.{standard_limits, limits_of}
 use Rattle.mesh_base.specs.Changes.{corners_of}
 
 -- faces, each by the numbers of its three corners
@@ -22,7 +22,7 @@ empty_mesh = record {
   solid = finite.empty;
   next_vertex = 1;
   next_face = 1;
-  limits = standard;
+  limits = standard_limits;
 }
 
 -- the points and the faces, numbered from 1, with the limits of a scale
