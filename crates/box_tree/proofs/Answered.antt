@@ -19,7 +19,7 @@ use Rattle.cell_grid.proofs.Listed.{find_is_lookup, get_made, left_true, right_t
 use Rattle.box_tree.specs.declared.labelled_box.LabelledBox.{LabelledBox}
 use Rattle.box_tree.specs.declared.question.Question.{Question}
 use Rattle.box_tree.specs.declared.node.Node.{Node}
-use Rattle.box_tree.specs.Nodes.{entries, finds, meeting}
+use Rattle.box_tree.specs.Nodes.{entries, finds, items_found}
 use Rattle.box_tree.specs.Overlapping.{LabelledBoxes, overlaps_apart, overlapping, overlapping_apart}
 
 both_true : (a b : Bool) → T a → T b → T (a && b)
@@ -80,20 +80,20 @@ module _ (q : Question) (es : List (ℕ × LabelledBox)) (once : IsDistinct nat_
   asked = overlapping_apart made q.at q.a q.b
 
   -- the question finds in the entries what it finds in the map
-  found_in_map : (i : ℕ) → has i (meeting q es) ≡ has i asked
+  found_in_map : (i : ℕ) → has i (items_found q es) ≡ has i asked
   found_in_map i =
       has-passing (finds q) es i once
       ∙ ap (λ o. option_map_or (finds q) o false) (sym (get_made es i))
       ∙ sym (has-answer made q.at q.a q.b i)
 
   -- a strictly rising list of what it finds is the answer
-  pub answer_is : (xs : List ℕ) → IsStrictlySortedBy nat_cmp xs → ((i : ℕ) → has i xs ≡ has i (meeting q es)) → xs ≡ asked
+  pub answer_is : (xs : List ℕ) → IsStrictlySortedBy nat_cmp xs → ((i : ℕ) → has i xs ≡ has i (items_found q es)) → xs ≡ asked
   answer_is xs rises same =
       same_rising xs (filter (λ e. finds q e.1) (map.entries made)) rises (sorted-filter (λ e. finds q e.1) (map.entries made) (entries_sorted made)) (λ i. same i ∙ found_in_map i)
 
   -- it finds as many
-  pub as_many : length (meeting q es) ≡ length asked
-  as_many = length-from_same_keys nat_eq_equiv (meeting q es) asked
+  pub as_many : length (items_found q es) ≡ length asked
+  as_many = length-from_same_keys nat_eq_equiv (items_found q es) asked
       (IsDistinct-keys_filter nat_eq (λ e. finds q e.1) es once)
       (IsDistinct-keys_filter nat_eq (λ e. finds q e.1) (map.entries made) (distinct_keys (map.entries made) (entries_sorted made)))
       found_in_map
@@ -107,13 +107,13 @@ pub none_is_few : (xs : List ℕ) (most : ℕ) → xs ≡ [] → length xs ≤ m
 none_is_few xs most none = subst (λ ys. length ys ≤ most) (sym none) (omega arith)
 
 -- what a walk adds to an empty list is what the question finds
-pub added_alone : (ask : Extent → Question) (at its : Extent) (ns read : List Node) (old xs : List ℕ) → xs ≡ old ++ meeting (ask its) (entries (reverse read)) → old ≡ [] → its ≡ at → read ≡ ns
-    → xs ≡ meeting (ask at) (entries (reverse ns))
+pub added_alone : (ask : Extent → Question) (at its : Extent) (ns read : List Node) (old xs : List ℕ) → xs ≡ old ++ items_found (ask its) (entries (reverse read)) → old ≡ [] → its ≡ at → read ≡ ns
+    → xs ≡ items_found (ask at) (entries (reverse ns))
 added_alone ask at its ns read old xs added none same nodes =
     added
-    ∙ ap (λ ys. ys ++ meeting (ask its) (entries (reverse read))) none
-    ∙ ap (λ e. meeting (ask e) (entries (reverse read))) same
-    ∙ ap (λ ms. meeting (ask at) (entries (reverse ms))) nodes
+    ∙ ap (λ ys. ys ++ items_found (ask its) (entries (reverse read))) none
+    ∙ ap (λ e. items_found (ask e) (entries (reverse read))) same
+    ∙ ap (λ ms. items_found (ask at) (entries (reverse ms))) nodes
 
 -- each box is apart from 0
 pub apart_from_none : (m : LabelledBoxes) (at : Extent) → overlapping_apart m at 0 0 ≡ overlapping m at

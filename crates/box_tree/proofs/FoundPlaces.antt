@@ -10,31 +10,31 @@ use Rattle.std.proofs.lemmas.Option.{slice_get_cases}
 use Rattle.cell_grid.specs.Filed.{has}
 use Rattle.cell_grid.proofs.Listed.{get_made}
 use Rattle.box_tree.specs.declared.labelled_box.LabelledBox.{LabelledBox}
-use Rattle.box_tree.specs.Nodes.{placed}
+use Rattle.box_tree.specs.Nodes.{entry_at}
 use Rattle.box_tree.specs.Order.{HasEachPlace}
 
 -- ---- no item stands twice
 module _ (boxes : List LabelledBox) where
-  others_placed : (k : ℕ) (ks : List ℕ) → AllByRecursion (λ j. nat_eq k j ≡ false) ks → AllByRecursion (λ j. nat_eq k j ≡ false) (keys_of (filter_map (placed boxes) ks))
+  others_placed : (k : ℕ) (ks : List ℕ) → AllByRecursion (λ j. nat_eq k j ≡ false) ks → AllByRecursion (λ j. nat_eq k j ≡ false) (keys_of (filter_map (entry_at boxes) ks))
   others_placed k [] h = tt
   others_placed k (j ∷ js) h = by_box (others_placed k js h.1) (slice_get boxes j)
     where
-      by_box : AllByRecursion (λ i. nat_eq k i ≡ false) (keys_of (filter_map (placed boxes) js)) → (o : Option LabelledBox)
-          → AllByRecursion (λ i. nat_eq k i ≡ false) (keys_of (cons_option (option_map (λ e. (j, e)) o) (filter_map (placed boxes) js)))
+      by_box : AllByRecursion (λ i. nat_eq k i ≡ false) (keys_of (filter_map (entry_at boxes) js)) → (o : Option LabelledBox)
+          → AllByRecursion (λ i. nat_eq k i ≡ false) (keys_of (cons_option (option_map (λ e. (j, e)) o) (filter_map (entry_at boxes) js)))
       by_box rest None = rest
       by_box rest (Some e) = (h.0, rest)
 
-  once_placed : (order : List ℕ) → IsDistinct nat_eq order → IsDistinct nat_eq (keys_of (filter_map (placed boxes) order))
+  once_placed : (order : List ℕ) → IsDistinct nat_eq order → IsDistinct nat_eq (keys_of (filter_map (entry_at boxes) order))
   unfolding IsDistinct
   once_placed [] h = tt
   once_placed (k ∷ ks) h = by_box (once_placed ks h.1) (slice_get boxes k)
     where
-      by_box : IsDistinct nat_eq (keys_of (filter_map (placed boxes) ks)) → (o : Option LabelledBox)
-          → IsDistinct nat_eq (keys_of (cons_option (option_map (λ e. (k, e)) o) (filter_map (placed boxes) ks)))
+      by_box : IsDistinct nat_eq (keys_of (filter_map (entry_at boxes) ks)) → (o : Option LabelledBox)
+          → IsDistinct nat_eq (keys_of (cons_option (option_map (λ e. (k, e)) o) (filter_map (entry_at boxes) ks)))
       by_box rest None = rest
       by_box rest (Some e) = (others_placed k ks h.0, rest)
 
-pub are_once : (boxes : List LabelledBox) (order : List ℕ) (es : List (ℕ × LabelledBox)) → HasEachPlace boxes order → es ≡ filter_map (placed boxes) order → IsDistinct nat_eq (keys_of es)
+pub are_once : (boxes : List LabelledBox) (order : List ℕ) (es : List (ℕ × LabelledBox)) → HasEachPlace boxes order → es ≡ filter_map (entry_at boxes) order → IsDistinct nat_eq (keys_of es)
 are_once boxes order es each is = subst (λ xs. IsDistinct nat_eq (keys_of xs)) (sym is) (once_placed boxes order each.once)
 
 -- ---- what the first entry of a place has
@@ -46,12 +46,12 @@ module _ (boxes : List LabelledBox) (i : ℕ) where
   here_or_later k es (Some x) true rest h later e = ap (λ (b : Bool). cond b (Some x) (lookup (nat_eq i) es)) e ∙ h refl
   here_or_later k es (Some x) false rest h later e = ap (λ (b : Bool). cond b (Some x) (lookup (nat_eq i) es)) e ∙ later
 
-  pub lookup_placed : (order : List ℕ) → lookup (nat_eq i) (filter_map (placed boxes) order) ≡ cond (has i order) (slice_get boxes i) None
+  pub lookup_placed : (order : List ℕ) → lookup (nat_eq i) (filter_map (entry_at boxes) order) ≡ cond (has i order) (slice_get boxes i) None
   lookup_placed [] = refl
-  lookup_placed (k ∷ ks) = here_or_later k (filter_map (placed boxes) ks) (slice_get boxes k) (nat_eq i k) (has i ks) (λ e. ap (slice_get boxes) (sym (eqb-true i k e))) (lookup_placed ks) refl
+  lookup_placed (k ∷ ks) = here_or_later k (filter_map (entry_at boxes) ks) (slice_get boxes k) (nat_eq i k) (has i ks) (λ e. ap (slice_get boxes) (sym (eqb-true i k e))) (lookup_placed ks) refl
 
 -- the map has each box at its place, and nothing else
-pub get_placed : (boxes : List LabelledBox) (order : List ℕ) (es : List (ℕ × LabelledBox)) → HasEachPlace boxes order → es ≡ filter_map (placed boxes) order → (i : ℕ) → finite.get (finite.from_entries {R = nat_cmp} es) i ≡ slice_get boxes i
+pub get_placed : (boxes : List LabelledBox) (order : List ℕ) (es : List (ℕ × LabelledBox)) → HasEachPlace boxes order → es ≡ filter_map (entry_at boxes) order → (i : ℕ) → finite.get (finite.from_entries {R = nat_cmp} es) i ≡ slice_get boxes i
 get_placed boxes order es each is i =
     get_made es i
     ∙ ap (lookup (nat_eq i)) is

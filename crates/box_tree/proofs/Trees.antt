@@ -12,7 +12,7 @@ use Rattle.box_tree.specs.Labels.{is_apart}
 use Rattle.box_tree.proofs.Labelled.{still_apart}
 use Rattle.grid_base.specs.Extents.{overlaps}
 use Rattle.box_tree.specs.declared.node.Node.{Node}
-use Rattle.box_tree.specs.Nodes.{Has, AllIn, IsTree, entries, finds, meeting}
+use Rattle.box_tree.specs.Nodes.{Has, AllIn, IsTree, entries, finds, items_found}
 use Rattle.cell_grid.proofs.Shared.{overlap_common}
 
 -- ---- a list from its end
@@ -67,28 +67,28 @@ missed q e f h miss = ⊎_elim
 -- ---- what a question finds
 module _ (q : Question) where
   -- an inner node has no item
-  pub meeting-inner : (n : Node) (ns : List Node) → nat_eq n.below 0 ≡ false → meeting q (entries (n ∷ ns)) ≡ meeting q (entries ns)
-  meeting-inner n ns h = ap (λ (b : Bool). meeting q (cond b ((n.item, n.bound) ∷ entries ns) (entries ns))) h
+  pub items_found-inner : (n : Node) (ns : List Node) → nat_eq n.below 0 ≡ false → items_found q (entries (n ∷ ns)) ≡ items_found q (entries ns)
+  items_found-inner n ns h = ap (λ (b : Bool). items_found q (cond b ((n.item, n.bound) ∷ entries ns) (entries ns))) h
 
-  meeting-entry : (i : ℕ) (e : LabelledBox) (es : List (ℕ × LabelledBox)) (b : Bool) → finds q e ≡ b → meeting q ((i, e) ∷ es) ≡ cond b (i ∷ meeting q es) (meeting q es)
-  meeting-entry i e es true h = ap (λ (b : Bool). keys_of (cond b ((i, e) ∷ filter (λ e. finds q e.1) es) (filter (λ e. finds q e.1) es))) h
-  meeting-entry i e es false h = ap (λ (b : Bool). keys_of (cond b ((i, e) ∷ filter (λ e. finds q e.1) es) (filter (λ e. finds q e.1) es))) h
+  items_found-entry : (i : ℕ) (e : LabelledBox) (es : List (ℕ × LabelledBox)) (b : Bool) → finds q e ≡ b → items_found q ((i, e) ∷ es) ≡ cond b (i ∷ items_found q es) (items_found q es)
+  items_found-entry i e es true h = ap (λ (b : Bool). keys_of (cond b ((i, e) ∷ filter (λ e. finds q e.1) es) (filter (λ e. finds q e.1) es))) h
+  items_found-entry i e es false h = ap (λ (b : Bool). keys_of (cond b ((i, e) ∷ filter (λ e. finds q e.1) es) (filter (λ e. finds q e.1) es))) h
 
-  pub meeting-met : (n : Node) (ns : List Node) → nat_eq n.below 0 ≡ true → finds q n.bound ≡ true → meeting q (entries (n ∷ ns)) ≡ n.item ∷ meeting q (entries ns)
-  meeting-met n ns h met = ap (λ (b : Bool). meeting q (cond b ((n.item, n.bound) ∷ entries ns) (entries ns))) h ∙ meeting-entry n.item n.bound (entries ns) true met
+  pub items_found-met : (n : Node) (ns : List Node) → nat_eq n.below 0 ≡ true → finds q n.bound ≡ true → items_found q (entries (n ∷ ns)) ≡ n.item ∷ items_found q (entries ns)
+  items_found-met n ns h met = ap (λ (b : Bool). items_found q (cond b ((n.item, n.bound) ∷ entries ns) (entries ns))) h ∙ items_found-entry n.item n.bound (entries ns) true met
 
-  either : (b : Bool) (n : Node) (ns : List Node) → finds q n.bound ≡ false → meeting q (cond b ((n.item, n.bound) ∷ entries ns) (entries ns)) ≡ meeting q (entries ns)
-  either true n ns miss = meeting-entry n.item n.bound (entries ns) false miss
+  either : (b : Bool) (n : Node) (ns : List Node) → finds q n.bound ≡ false → items_found q (cond b ((n.item, n.bound) ∷ entries ns) (entries ns)) ≡ items_found q (entries ns)
+  either true n ns miss = items_found-entry n.item n.bound (entries ns) false miss
   either false n ns miss = refl
 
-  pub meeting-missed : (n : Node) (ns : List Node) → finds q n.bound ≡ false → meeting q (entries (n ∷ ns)) ≡ meeting q (entries ns)
-  meeting-missed n ns miss = either (nat_eq n.below 0) n ns miss
+  pub items_found-missed : (n : Node) (ns : List Node) → finds q n.bound ≡ false → items_found q (entries (n ∷ ns)) ≡ items_found q (entries ns)
+  items_found-missed n ns miss = either (nat_eq n.below 0) n ns miss
 
   -- nothing is found below a node that is missed
-  pub meeting-skip : (e : LabelledBox) (b : ℕ) (ns : List Node) → finds q e ≡ false → AllIn e (take b ns) → meeting q (entries ns) ≡ meeting q (entries (drop b ns))
-  meeting-skip e zero ns miss h = refl
-  meeting-skip e (suc b) [] miss h = refl
-  meeting-skip e (suc b) (n ∷ ns) miss h = meeting-missed n ns (missed q e n.bound h.0 miss) ∙ meeting-skip e b ns miss h.1
+  pub items_found-skip : (e : LabelledBox) (b : ℕ) (ns : List Node) → finds q e ≡ false → AllIn e (take b ns) → items_found q (entries ns) ≡ items_found q (entries (drop b ns))
+  items_found-skip e zero ns miss h = refl
+  items_found-skip e (suc b) [] miss h = refl
+  items_found-skip e (suc b) (n ∷ ns) miss h = items_found-missed n ns (missed q e n.bound h.0 miss) ∙ items_found-skip e b ns miss h.1
 
 -- ---- one step from the end
 module _ (ns : List Node) (k i : ℕ) (n : Node) (one : k ≡ i + 1) (inside : i < length ns) (is : n ≡ get_or ns i n) where
@@ -111,12 +111,12 @@ module _ (ns : List Node) (k i : ℕ) (n : Node) (one : k ≡ i + 1) (inside : i
     pub skip_tree : IsTree (reverse (take (i - n.below) ns))
     skip_tree = subst IsTree (sym read_rest) (IsTree-drop n.below (reverse (take i ns)) read_tree.1.1)
 
-    pub skip_meeting : (q : Question) → finds q n.bound ≡ false → meeting q (entries (reverse (take k ns))) ≡ meeting q (entries (reverse (take (i - n.below) ns)))
+    pub skip_meeting : (q : Question) → finds q n.bound ≡ false → items_found q (entries (reverse (take k ns))) ≡ items_found q (entries (reverse (take (i - n.below) ns)))
     skip_meeting q miss =
-        ap (λ r. meeting q (entries r)) read_last
-        ∙ meeting-missed q n (reverse (take i ns)) miss
-        ∙ meeting-skip q n.bound n.below (reverse (take i ns)) miss read_tree.1.0
-        ∙ ap (λ r. meeting q (entries r)) (sym read_rest)
+        ap (λ r. items_found q (entries r)) read_last
+        ∙ items_found-missed q n (reverse (take i ns)) miss
+        ∙ items_found-skip q n.bound n.below (reverse (take i ns)) miss read_tree.1.0
+        ∙ ap (λ r. items_found q (entries r)) (sym read_rest)
 
     pub hull_step : (from : ℕ) (f : LabelledBox) → from < k → Has f n.bound → AllIn f (take (i - n.below - from) (reverse (take (i - n.below) ns))) → AllIn f (take (k - from) (reverse (take k ns)))
     hull_step from f lt has h =

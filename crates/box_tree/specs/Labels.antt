@@ -11,9 +11,13 @@ abbrev pub is_apart : Labels → ℕ → ℕ → Bool
 is_apart l a b = not (has_label l a || has_label l b)
 
 -- the number, if it is one of them, and else 0
-abbrev pub kept : Labels → ℕ → ℕ
-kept l n = cond (has_label l n) n 0
+abbrev pub label_or_zero : Labels → ℕ → ℕ
+label_or_zero l n = cond (has_label l n) n 0
 
 -- those of the first that are also of the second
 abbrev pub common : Labels → Labels → Labels
-common l m = record { first = kept m l.first; second = kept m l.second; third = kept m l.third }
+common l m = record {
+  first = label_or_zero m l.first;
+  second = label_or_zero m l.second;
+  third = label_or_zero m l.third;
+}

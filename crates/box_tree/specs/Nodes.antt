@@ -40,9 +40,9 @@ abbrev pub finds : Question → LabelledBox → Bool
 finds q e = overlaps_apart q.at q.a q.b e
 
 -- the items that the question finds
-abbrev pub meeting : Question → List (ℕ × LabelledBox) → List ℕ
-meeting q es = keys_of (filter (λ e. finds q e.1) es)
+abbrev pub items_found : Question → List (ℕ × LabelledBox) → List ℕ
+items_found q es = keys_of (filter (λ e. finds q e.1) es)
 
 -- the place with its box; none, where there is no box
-abbrev pub placed : List LabelledBox → ℕ → Option (ℕ × LabelledBox)
-placed boxes i = option_map (λ e. (i, e)) (slice_get boxes i)
+abbrev pub entry_at : List LabelledBox → ℕ → Option (ℕ × LabelledBox)
+entry_at boxes i = option_map (λ e. (i, e)) (slice_get boxes i)

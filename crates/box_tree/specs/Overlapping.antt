@@ -1,6 +1,7 @@
 -- Which items of a map have a box that has a common point with another box.
-use Rattle.std.specs.Prelude.{◌≡◌, ℕ, Bool, false, ◌&&◌, List}
+use Rattle.std.specs.Prelude.{◌≡◌, ◌↔◌, ℕ, Bool, false, ◌&&◌, List, Contains}
 use Rattle.std.specs.List.{filter}
+use Rattle.std.specs.List.Sorted.{IsStrictlyIncreasing}
 use Rattle.std.specs.Option.{IsSomeAnd}
 use Rattle.std.specs.Map.{keys_of}
 use Rattle.std.specs.Ordering.{nat_cmp}
@@ -31,3 +32,13 @@ abbrev pub IsItemApart : LabelledBoxes → Extent → ℕ → ℕ → ℕ → Ty
 IsItemApart m at a b i =
     IsSomeAnd (map.get m i) (λ e. HaveCommonPoint e.at at
     × ((has_label e.labels a ≡ false) × (has_label e.labels b ≡ false)))
+
+-- the answer to each question rises
+abbrev pub AnswersRise : Type 0
+AnswersRise =
+    (m : LabelledBoxes) (at : Extent) (a b : ℕ) → IsStrictlyIncreasing (overlapping_apart m at a b)
+
+-- the answer to each question has exactly those items
+abbrev pub AnswersHaveItemsApart : Type 0
+AnswersHaveItemsApart = (m : LabelledBoxes) (at : Extent) (a b i : ℕ) →
+    Contains (overlapping_apart m at a b) i ↔ IsItemApart m at a b i

@@ -1,7 +1,7 @@
 // How the nodes are set.
 ghost use Rattle.std.specs.Prelude.{◌≡◌, ◌-◌, ◌<◌, ◌++◌, length, reverse, take, slice_get, OnOk};
 ghost use Rattle.std.specs.List.{filter_map};
-ghost use Rattle.box_tree.specs.Nodes.{IsTree, AllIn, Has, entries, placed};
+ghost use Rattle.box_tree.specs.Nodes.{IsTree, AllIn, Has, entries, entry_at};
 
 use crate::{LabelledBox, Node, SmallBox};
 use grid_base::NoMemory;
@@ -67,7 +67,7 @@ fn box_at(boxes: &[LabelledBox], i: u64) -> Option<LabelledBox>
 fn put(nodes: &mut Vec<Node>, boxes: &[LabelledBox], order: &[u64]) -> Result<(), NoMemory>
     requires { IsTree (reverse nodes.old.items) }
     ensures tree { OnOk result (IsTree (reverse nodes.new.items)) }
-    ensures all { let items = filter_map (placed boxes.now) order.now in
+    ensures all { let items = filter_map (entry_at boxes.now) order.now in
         OnOk result
         (entries (reverse nodes.new.items) ≡ items ++ entries (reverse nodes.old.items)) }
 {
@@ -94,7 +94,7 @@ pub(crate) fn grow(
 ) -> Result<(), NoMemory>
     requires { IsTree (reverse nodes.old.items) }
     ensures tree { OnOk result (IsTree (reverse nodes.new.items)) }
-    ensures all { let items = filter_map (placed boxes.now) order.now in
+    ensures all { let items = filter_map (entry_at boxes.now) order.now in
         OnOk result
         (entries (reverse nodes.new.items) ≡ items ++ entries (reverse nodes.old.items)) }
 {

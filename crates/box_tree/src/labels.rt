@@ -1,6 +1,6 @@
 //! Numbers that a box is known by.
 ghost use Rattle.std.specs.Prelude.{◌≡◌};
-ghost use Rattle.box_tree.specs.Labels.{has_label, is_apart, kept, common};
+ghost use Rattle.box_tree.specs.Labels.{has_label, is_apart, label_or_zero, common};
 
 /// Up to three numbers that a box is known by, such as the vertices of a face; 0 is none.
 #[derive(Clone, Copy)]
@@ -26,8 +26,8 @@ impl Labels {
     }
 
     // The number, if it is one of them, and else 0.
-    fn kept(&self, n: u32) -> u32
-        ensures { result ≡ kept self.now n }
+    fn label_or_zero(&self, n: u32) -> u32
+        ensures { result ≡ label_or_zero self.now n }
     {
         if self.has(n) { n } else { 0 }
     }
@@ -37,9 +37,9 @@ impl Labels {
         ensures { result ≡ common self.now other.now }
     {
         Labels {
-            first: other.kept(self.first),
-            second: other.kept(self.second),
-            third: other.kept(self.third),
+            first: other.label_or_zero(self.first),
+            second: other.label_or_zero(self.second),
+            third: other.label_or_zero(self.third),
         }
     }
 }

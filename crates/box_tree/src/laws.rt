@@ -1,17 +1,14 @@
 //! What the answers of a tree mean. Each is the contract of a function that does nothing.
 
-ghost use Rattle.std.specs.Prelude.{◌≡◌, ◌↔◌, ℕ, Contains};
-ghost use Rattle.std.specs.List.Sorted.{IsStrictlyIncreasing};
+ghost use Rattle.std.specs.Prelude.{◌≡◌};
 ghost use Rattle.grid_base.specs.declared.Extent.{Extent};
-ghost use Rattle.box_tree.specs.Overlapping.{LabelledBoxes, overlapping, overlapping_apart, IsItemApart};
+ghost use Rattle.box_tree.specs.Overlapping.{LabelledBoxes, overlapping, overlapping_apart, AnswersRise, AnswersHaveItemsApart};
 
 /// The answer to a question rises, and has exactly the items whose boxes have a common point with the one asked for and
 /// neither of the two labels.
 pub fn overlapping_items_have_neither_label()
-    ensures rising { (m : LabelledBoxes) (at : Extent) (a b : ℕ)
-        → IsStrictlyIncreasing (overlapping_apart m at a b) }
-    ensures items { (m : LabelledBoxes) (at : Extent) (a b i : ℕ)
-        → Contains (overlapping_apart m at a b) i ↔ IsItemApart m at a b i }
+    ensures rising { AnswersRise }
+    ensures items { AnswersHaveItemsApart }
 {}
 
 /// Where no label is named, none is left out.

@@ -1,6 +1,6 @@
 // What a walk over the nodes finds.
 ghost use Rattle.std.specs.Prelude.{◌≡◌, ◌<◌, ◌≤◌, ◌++◌, true, false, length, reverse, OnOk, IfOk};
-ghost use Rattle.box_tree.specs.Nodes.{IsTree, entries, meeting};
+ghost use Rattle.box_tree.specs.Nodes.{IsTree, entries, items_found};
 
 use crate::{Node, Question};
 use grid_base::NoMemory;
@@ -10,7 +10,7 @@ use grid_base::NoMemory;
 pub(crate) fn walk(nodes: &[Node], q: &Question, into: &mut Vec<u64>) -> Result<(), NoMemory>
     requires { IsTree (reverse nodes.now) }
     ensures { OnOk result
-        (into.new.items ≡ into.old.items ++ meeting q.now (entries (reverse nodes.now))) }
+        (into.new.items ≡ into.old.items ++ items_found q.now (entries (reverse nodes.now))) }
 {
     let mut i = nodes.len();
     while i > 0 {
@@ -36,11 +36,11 @@ pub(crate) fn walk_up_to(
     into: &mut Vec<u64>,
 ) -> Result<bool, NoMemory>
     requires { IsTree (reverse nodes.now) }
-    ensures all { let found = meeting q.now (entries (reverse nodes.now)) in
+    ensures all { let found = items_found q.now (entries (reverse nodes.now)) in
         IfOk result (λ all. all ≡ true → into.new.items ≡ into.old.items ++ found) }
     ensures few { length into.old.items ≤ most
         → IfOk result (λ all. all ≡ true → length into.new.items ≤ most) }
-    ensures more { let found = meeting q.now (entries (reverse nodes.now)) in
+    ensures more { let found = items_found q.now (entries (reverse nodes.now)) in
         IfOk result (λ all. all ≡ false → most < length (into.old.items ++ found)) }
 {
     let mut i = nodes.len();

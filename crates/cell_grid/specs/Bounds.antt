@@ -6,15 +6,15 @@ use Rattle.cell_grid.specs.declared.bounds.Interval.{Interval}
 use Rattle.cell_grid.specs.declared.bounds.Bounds.{Bounds}
 
 -- a coordinate, counted from the least one
-abbrev pub counted : ℤ → ℕ
-counted a = unsigned_abs (a +ℤ pos EXTENT_MAX)
+abbrev pub offset : ℤ → ℕ
+offset a = unsigned_abs (a +ℤ pos EXTENT_MAX)
 
 -- the bounds of an extent
 abbrev pub bounds_of : Extent → Bounds
 bounds_of e = record {
-  x = record { low = counted e.low.x; high = counted e.high.x };
-  y = record { low = counted e.low.y; high = counted e.high.y };
-  z = record { low = counted e.low.z; high = counted e.high.z };
+  x = record { low = offset e.low.x; high = offset e.high.x };
+  y = record { low = offset e.low.y; high = offset e.high.y };
+  z = record { low = offset e.low.z; high = offset e.high.z };
 }
 
 -- whether two intervals have a common number

@@ -1,5 +1,5 @@
 -- Which items of a map have a box that has a common point with another box.
-use Rattle.std.specs.Prelude.{ℕ, Bool, false, IsTrue, List, nat_eq}
+use Rattle.std.specs.Prelude.{◌↔◌, ℕ, Bool, Contains, false, IsTrue, List, nat_eq}
 use Rattle.std.specs.List.{filter, list_any}
 use Rattle.std.specs.Option.{IsSomeAnd, option_map_or}
 use Rattle.std.specs.Map.{keys_of}
@@ -20,7 +20,11 @@ overlapping m at = keys_of (filter (λ e. overlaps e.1 at) (map.entries m))
 abbrev pub IsItemAt : Boxes → Extent → ℕ → Type 0
 IsItemAt m at i = IsSomeAnd (map.get m i) (λ e. HaveCommonPoint e at)
 
--- the test of it
+-- the list has exactly those items
+abbrev pub HasItemsAt : Boxes → Extent → List ℕ → Type 0
+HasItemsAt m at found = (i : ℕ) → Contains found i ↔ IsItemAt m at i
+
+-- the test of an item
 abbrev pub is_item_at : Boxes → Extent → ℕ → Bool
 is_item_at m at i = option_map_or (λ e. overlaps e at) (map.get m i) false
 

@@ -1,7 +1,7 @@
 // Boxes in 32 bits a coordinate.
 ghost use Rattle.std.specs.Prelude.{◌≡◌, ◌≤◌, ◌*◌, IsTrue, unsigned_abs};
 ghost use Rattle.grid_base.specs.declared.TheConstants.{EXTENT_MAX};
-ghost use Rattle.cell_grid.specs.Bounds.{counted, bounds_of, intervals_meet, bounds_meet};
+ghost use Rattle.cell_grid.specs.Bounds.{offset, bounds_of, intervals_meet, bounds_meet};
 ghost use Rattle.cell_grid.specs.declared.bounds.Interval.{Interval as Along};
 ghost use Rattle.cell_grid.specs.declared.bounds.Bounds.{Bounds as Box};
 
@@ -24,9 +24,9 @@ pub(crate) struct Bounds {
 }
 
 /// A coordinate, counted from the least that an extent has.
-pub(crate) fn counted(a: i128) -> u32
+pub(crate) fn offset(a: i128) -> u32
     requires { unsigned_abs a ≤ EXTENT_MAX }
-    ensures value { result ≡ counted a }
+    ensures value { result ≡ offset a }
     ensures within { result ≤ 2 * EXTENT_MAX }
 {
     (a + EXTENT_MAX as i128) as u32
@@ -37,12 +37,12 @@ impl Interval {
     fn between(low: i128, high: i128) -> Interval
         requires low_fits { unsigned_abs low ≤ EXTENT_MAX }
         requires high_fits { unsigned_abs high ≤ EXTENT_MAX }
-        ensures low { result.low ≡ counted low }
-        ensures high { result.high ≡ counted high }
+        ensures low { result.low ≡ offset low }
+        ensures high { result.high ≡ offset high }
     {
         Interval {
-            low: counted(low),
-            high: counted(high),
+            low: offset(low),
+            high: offset(high),
         }
     }
 

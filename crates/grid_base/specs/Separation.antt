@@ -64,6 +64,14 @@ axes =
 abbrev pub directions : Positions → Positions → List Triple
 directions start end = axes ++ ten_directions start ++ ten_directions end
 
+-- one of them keeps the edge and the triangle apart
+abbrev pub AreKeptApart : Positions → Positions → Type 0
+AreKeptApart start end = Any (KeepsApart start end) (directions start end)
+
+-- one of them takes the edge and the triangle apart
+abbrev pub AreTakenApart : Positions → Positions → Type 0
+AreTakenApart start end = Any (TakesApart start end) (directions start end)
+
 -- all five positions multiplied by n
 abbrev pub multiple : ℕ → Positions → Positions
 multiple n f =

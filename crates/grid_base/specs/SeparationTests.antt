@@ -83,3 +83,8 @@ opens (suc depth) start end =
 -- The pair opens where its start and its end are exchanged.
 abbrev pub closes : ℕ → Positions → Positions → Bool
 closes depth start end = opens depth end start
+
+-- the test is true of a pair to a depth exactly where the fact holds of it
+abbrev pub IsTestOf : (ℕ → Positions → Positions → Bool) →
+    (ℕ → Positions → Positions → Type 0) → Type 0
+IsTestOf test P = (depth : ℕ) (s t : Positions) → (IsTrue (test depth s t) ↔ P depth s t)

@@ -1,7 +1,6 @@
 //! Laws of meeting and of motion. Each is the contract of a function that does nothing.
 
-ghost use Rattle.std.specs.Prelude.{ℕ, Bool, ◌≡◌, ◌<◌, ◌↔◌, IsTrue};
-ghost use Rattle.std.specs.List.{Any};
+ghost use Rattle.std.specs.Prelude.{ℕ, Bool, ◌≡◌, ◌<◌, ◌↔◌};
 ghost use Rattle.grid_base.specs.declared.grid.Point.{Point};
 ghost use Rattle.grid_base.specs.declared.grid.Shift.{Shift};
 ghost use Rattle.grid_base.specs.declared.TheConstants.{BOX, SHIFT_MAX};
@@ -9,9 +8,9 @@ ghost use Rattle.grid_base.specs.Triples.{Triple, IsWithin};
 ghost use Rattle.grid_base.specs.Points.{position_of, displacement_of, point_at, shift_by};
 ghost use Rattle.grid_base.specs.Meeting.{Positions, MeetAt};
 ghost use Rattle.grid_base.specs.Motion.{NeverMeet, NeverMeetAfterStart, NeverMeetBeforeEnd};
-ghost use Rattle.grid_base.specs.Separation.{IsBelow, KeepsApart, TakesApart, BringsTogether, MoveTogether, AreSeparated, Passes, Opens, Closes, directions, multiple};
-ghost use Rattle.grid_base.specs.SeparationTests.{IsExact, are_separated, passes, opens, closes};
-ghost use Rattle.grid_base.specs.Deeper.{HoldsDeeper};
+ghost use Rattle.grid_base.specs.Separation.{IsBelow, TakesApart, BringsTogether, MoveTogether, AreKeptApart, AreTakenApart, AreSeparated, Passes, Opens, Closes, multiple};
+ghost use Rattle.grid_base.specs.SeparationTests.{IsExact, IsTestOf, are_separated, passes, opens, closes};
+ghost use Rattle.grid_base.specs.Deeper.{HoldsDeeper, IsTrueDeeper};
 
 /// The point at the position of a point is that point; the point at a position within the box stands there.
 pub fn points_are_positions()
@@ -62,14 +61,12 @@ pub fn closing_never_meets_before_end()
 
 /// A pair that one of the 23 directions keeps apart at both ends is separated at each depth.
 pub fn kept_apart_is_separated()
-    ensures { (depth : ℕ) (s t : Positions) →
-        Any (KeepsApart s t) (directions s t) → AreSeparated depth s t }
+    ensures { (depth : ℕ) (s t : Positions) → AreKeptApart s t → AreSeparated depth s t }
 {}
 
 /// A pair that one of the 23 directions takes apart opens at each depth.
 pub fn taken_apart_opens()
-    ensures { (depth : ℕ) (s t : Positions) →
-        Any (TakesApart s t) (directions s t) → Opens depth s t }
+    ensures { (depth : ℕ) (s t : Positions) → AreTakenApart s t → Opens depth s t }
 {}
 
 /// A direction brings a pair together exactly where it takes the pair apart in the motion backwards.
@@ -93,24 +90,22 @@ pub fn ends_are_apart()
 
 /// The test of separation is true exactly where the definition holds.
 pub fn separation_is_tested()
-    ensures { (depth : ℕ) (s t : Positions) →
-        (IsTrue (are_separated depth s t) ↔ AreSeparated depth s t) }
+    ensures { IsTestOf are_separated AreSeparated }
 {}
 
 /// The test of passing is true exactly where the definition holds, by any exact test of meeting.
 pub fn passing_is_tested()
-    ensures { (meets : Positions → Bool) → IsExact meets →
-        (depth : ℕ) (s t : Positions) → (IsTrue (passes meets depth s t) ↔ Passes depth s t) }
+    ensures { (meets : Positions → Bool) → IsExact meets → IsTestOf (passes meets) Passes }
 {}
 
 /// The test of opening is true exactly where the definition holds.
 pub fn opening_is_tested()
-    ensures { (depth : ℕ) (s t : Positions) → (IsTrue (opens depth s t) ↔ Opens depth s t) }
+    ensures { IsTestOf opens Opens }
 {}
 
 /// The test of closing is true exactly where the definition holds.
 pub fn closing_is_tested()
-    ensures { (depth : ℕ) (s t : Positions) → (IsTrue (closes depth s t) ↔ Closes depth s t) }
+    ensures { IsTestOf closes Closes }
 {}
 
 /// What is separated, passes, opens or closes to some depth does so to each greater one; by the tests too, where that of
@@ -120,8 +115,7 @@ pub fn more_depth_keeps_what_passes()
     ensures passes { HoldsDeeper Passes }
     ensures opens { HoldsDeeper Opens }
     ensures closes { HoldsDeeper Closes }
-    ensures passing_test { (meets : Positions → Bool) →
-        HoldsDeeper (λ depth s t. IsTrue (passes meets depth s t)) }
-    ensures opening_test { HoldsDeeper (λ depth s t. IsTrue (opens depth s t)) }
-    ensures closing_test { HoldsDeeper (λ depth s t. IsTrue (closes depth s t)) }
+    ensures passing_test { (meets : Positions → Bool) → IsTrueDeeper (passes meets) }
+    ensures opening_test { IsTrueDeeper opens }
+    ensures closing_test { IsTrueDeeper closes }
 {}

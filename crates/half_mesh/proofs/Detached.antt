@@ -4,19 +4,19 @@ use Rattle.slab.specs.Slab.{Slab, get}
 use Rattle.half_mesh.specs.declared.halves.Half.{Half}
 use Rattle.half_mesh.specs.declared.row.Row.{Row}
 use Rattle.half_mesh.specs.Fans.{without, without_spoke}
-use Rattle.half_mesh.specs.Walks.{Keyed, walk, key_before, cut, spoke_of, fan_of, IsChain, IsFanned, IsLinkedPast, Resets}
+use Rattle.half_mesh.specs.Walks.{KeyedHalf, walk, key_before, cut, spoke_of, fan_of, IsChain, IsFanned, IsLinkedPast, Resets}
 use Rattle.half_mesh.proofs.Chains.{IsBefore, walk-chain, walk-none, chain_stays, chain-higher, keys_differ, before-chain, chain-cut, cut-chain, cut-absent}
 use Rattle.half_mesh.proofs.Fanned.{Stay, fan-fanned, walk-fanned}
 
 -- the half-edges of a vertex, of which one is first
-pub record IsHeaded (s : Slab Half) (v : ℕ) (row : Row) (first : Half) (es : List Keyed) : Type 0 where
-  pub rest : List Keyed
+pub record IsHeaded (s : Slab Half) (v : ℕ) (row : Row) (first : Half) (es : List KeyedHalf) : Type 0 where
+  pub rest : List KeyedHalf
   pub are : es ≡ (row.first, first) ∷ rest
   pub chain : IsChain s v (2 ^ 32) row.first ((row.first, first) ∷ rest)
   pub count : length rest ≡ row.count - 1
   pub some : 0 < row.count
 
-by_halves : (s : Slab Half) (v : ℕ) (row : Row) (first : Half) (es : List Keyed) → IsChain s v (2 ^ 32) row.first es → length es ≡ row.count → 0 < row.count → get s row.first ≡ Some first → IsHeaded s v row first es
+by_halves : (s : Slab Half) (v : ℕ) (row : Row) (first : Half) (es : List KeyedHalf) → IsChain s v (2 ^ 32) row.first es → length es ≡ row.count → 0 < row.count → get s row.first ≡ Some first → IsHeaded s v row first es
 by_halves s v row first [] c count more at = absurd (omega arith)
 by_halves s v row first (e ∷ rest) c count more at =
     let key : e.0 ≡ row.first = c.0 in
@@ -68,7 +68,7 @@ detached-first s t v f row first was more at is up =
       others = λ q apart k h there of_q. up k (key_of_other s k row.first v q h first there of_q at head.chain.2 apart) ∙ there;
     }
 
-pub detached-later : (s t : Slab Half) (v f : ℕ) (row : Row) (first : Half) (p : Keyed) (gone : Half) (was : IsFanned s v row) → 0 < row.count → get s row.first ≡ Some first → (first.face == f) ≡ false
+pub detached-later : (s t : Slab Half) (v f : ℕ) (row : Row) (first : Half) (p : KeyedHalf) (gone : Half) (was : IsFanned s v row) → 0 < row.count → get s row.first ≡ Some first → (first.face == f) ≡ false
     → key_before f (row.first, first) (walk s (row.count - 1) first.after) ≡ Some p → IsLinkedPast s t p gone → IsDetached s t v f row (record row { count = row.count - 1 })
 detached-later s t v f row first p gone was more at apart found past =
     let head = headed s v row first was more at in
@@ -121,7 +121,7 @@ kept-nothing s f row none =
     ap (λ es. record { vertex = row.vertex; spokes = without f (map spoke_of es) }) halves ∙ sym (ap (λ es. record { vertex = row.vertex; spokes = map spoke_of es }) halves)
 
 -- what was found stands in the slab, and before another
-pub found_before : (s : Slab Half) (v f : ℕ) (row : Row) (first : Half) (p : Keyed) (was : IsFanned s v row) → 0 < row.count → get s row.first ≡ Some first
+pub found_before : (s : Slab Half) (v f : ℕ) (row : Row) (first : Half) (p : KeyedHalf) (was : IsFanned s v row) → 0 < row.count → get s row.first ≡ Some first
     → key_before f (row.first, first) (walk s (row.count - 1) first.after) ≡ Some p → IsBefore s v (2 ^ 32) f p
 found_before s v f row first p was more at found =
     let head = headed s v row first was more at in
@@ -129,5 +129,5 @@ found_before s v f row first p was more at found =
     before-chain s v (2 ^ 32) f (row.first, first) head.rest p head.chain (ap (key_before f (row.first, first)) (sym rest_is) ∙ found)
 
 -- a half-edge that follows another is passed over, and stays at its key
-pub past-set : (s t : Slab Half) (p : Keyed) (gone : Half) → get s p.0 ≡ Some p.1 → get s p.1.after ≡ Some gone → Resets s t p.0 gone.after → IsLinkedPast s t p gone
+pub past-set : (s t : Slab Half) (p : KeyedHalf) (gone : Half) → get s p.0 ≡ Some p.1 → get s p.1.after ≡ Some gone → Resets s t p.0 gone.after → IsLinkedPast s t p gone
 past-set s t p gone at there r = record { there = there; linked = r.changed p.1 at; others = λ k a b. r.others k a }

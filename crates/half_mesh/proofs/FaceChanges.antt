@@ -12,9 +12,9 @@ use Rattle.mesh_base.proofs.Finite.{got_after_remove}
 use Rattle.half_mesh.specs.Fans.{Side, Sides, Woven, side_at, spokes_at, without, IsNewest}
 use Rattle.half_mesh.specs.FanChanges.{KeepsSidesOutside}
 use Rattle.half_mesh.specs.Vertices.{vertices_in}
-use Rattle.half_mesh.specs.Tied.{Keys, IsRing, HasRing, HasLost, HaveFans, AreTied, to_at, corners_at, faces_in, woven_mesh, falling, spoke_in}
-use Rattle.half_mesh.proofs.Mapped.{mapped-insert, mapped-remove, mapped-alike, got_after}
-use Rattle.half_mesh.proofs.Falling.{entries-insert_last, falling-last, falling-remove, falling-without, falling-newest, falling-few}
+use Rattle.half_mesh.specs.Tied.{Keys, IsRing, HasRing, HasLost, HaveFans, AreTied, to_at, corners_at, faces_in, woven_mesh, falling_spokes, spoke_in}
+use Rattle.half_mesh.proofs.Mapped.{map_values-insert, map_values-remove, map_values-alike, got_after}
+use Rattle.half_mesh.proofs.Falling.{entries-insert_last, falling_spokes-last, falling_spokes-remove, falling_spokes-without, falling_spokes-newest, falling_spokes-few}
 use Rattle.half_mesh.proofs.TiedLaws.{live_fan}
 use Rattle.half_mesh.proofs.Rings.{HasSpokes, no_corner}
 use Rattle.mesh_base.specs.declared.limits.Limits.{Limits}
@@ -57,7 +57,7 @@ mesh-room w x keys l nv nf m same view = ap (λ y. woven_mesh y keys l nv nf) sa
 -- a face more
 pub faces-with_face : (w x : Woven) (keys : Keys) (f : ℕ) (c : Corners) (key : ℕ) → AreTied w keys → HasRing w x f c key → faces_in x.sides (finite.insert keys f key) ≡ finite.insert (faces_in w.sides keys) f c
 faces-with_face w x keys f c key t r =
-    mapped-insert (corners_at w.sides) (corners_at x.sides) keys f key c (corners-ring x.sides f c key r.ring)
+    map_values-insert (corners_at w.sides) (corners_at x.sides) keys f key c (corners-ring x.sides f c key r.ring)
     (λ q k apart there. corners-stay w.sides x.sides q k (λ l side at of_q. r.sides l side at) (t.rings q k there))
 
 pub tied-with_face : (w x : Woven) (keys : Keys) (f : ℕ) (c : Corners) (key : ℕ) → AreTied w keys → HasRing w x f c key
@@ -72,8 +72,8 @@ tied-with_face w x keys f c key t r below = record {
   spokes = λ v.
       r.spokes v
       ∙ ap (λ ss. spoke_in v (f, c) ++ ss) (t.spokes v)
-      ∙ sym (falling-last v (finite.entries (faces_in w.sides keys)) (f, c))
-      ∙ sym (ap (falling v) (ap finite.entries (faces-with_face w x keys f c key t r) ∙ entries-insert_last (faces_in w.sides keys) f c below));
+      ∙ sym (falling_spokes-last v (finite.entries (faces_in w.sides keys)) (f, c))
+      ∙ sym (ap (falling_spokes v) (ap finite.entries (faces-with_face w x keys f c key t r) ∙ entries-insert_last (faces_in w.sides keys) f c below));
 }
 
 pub lost-made : (w0 w1 w2 w3 : Woven) (f : ℕ) (c : Corners) → AreDifferent c
@@ -95,10 +95,10 @@ lost-made w0 w1 w2 w3 f c d a b e s1 s2 s3 = record {
 
 pub faces-without_face : (w x : Woven) (keys : Keys) (f : ℕ) (c : Corners) → AreTied w keys → HasLost w x f c → faces_in x.sides (finite.remove keys f) ≡ finite.remove (faces_in w.sides keys) f
 faces-without_face w x keys f c t lost =
-    mapped-alike (corners_at w.sides) (corners_at x.sides) (finite.remove keys f) (λ q k there.
+    map_values-alike (corners_at w.sides) (corners_at x.sides) (finite.remove keys f) (λ q k there.
     let old = got_after_remove keys f q k there in
     corners-stay w.sides x.sides q k (λ l side at of_q. lost.sides l side at (λ of_f. old.0 (sym of_q ∙ of_f))) (t.rings q k old.1))
-    ∙ mapped-remove (corners_at w.sides) keys f
+    ∙ map_values-remove (corners_at w.sides) keys f
 
 pub tied-without_face : (w x : Woven) (keys : Keys) (f : ℕ) (c : Corners) → AreTied w keys → HasLost w x f c → finite.get (faces_in w.sides keys) f ≡ Some c → AreTied x (finite.remove keys f)
 tied-without_face w x keys f c t lost there = record {
@@ -108,7 +108,7 @@ tied-without_face w x keys f c t lost there = record {
   spokes = λ v.
       all v
       ∙ ap (without f) (t.spokes v)
-      ∙ sym (ap (λ m. falling v (finite.entries m)) (faces-without_face w x keys f c t lost) ∙ falling-remove v f (faces_in w.sides keys));
+      ∙ sym (ap (λ m. falling_spokes v (finite.entries m)) (faces-without_face w x keys f c t lost) ∙ falling_spokes-remove v f (faces_in w.sides keys));
 }
   where
     all : (v : ℕ) → spokes_at x.fans v ≡ without f (spokes_at w.fans v)
@@ -118,7 +118,7 @@ tied-without_face w x keys f c t lost there = record {
         (λ is. ap (spokes_at x.fans) is ∙ lost.second ∙ ap (λ q. without f (spokes_at w.fans q)) (sym is))
         (λ q. ⊎_elim
         (λ is. ap (spokes_at x.fans) is ∙ lost.third ∙ ap (λ q. without f (spokes_at w.fans q)) (sym is))
-        (λ r. lost.others v p q r ∙ t.spokes v ∙ sym (falling-without v f c (faces_in w.sides keys) there (no_corner v c p q r)) ∙ ap (without f) (sym (t.spokes v)))
+        (λ r. lost.others v p q r ∙ t.spokes v ∙ sym (falling_spokes-without v f c (faces_in w.sides keys) there (no_corner v c p q r)) ∙ ap (without f) (sym (t.spokes v)))
         (cases_eq v c.third))
         (cases_eq v c.second))
         (cases_eq v c.first)
@@ -139,11 +139,11 @@ have_fans w keys l nv nf m c view live = (
 )
 
 pub newest-tied : (w : Woven) (keys : Keys) (l : Limits) (nv nf : ℕ) (m : Mesh) → woven_mesh w keys l nv nf ≡ m → ((f : ℕ) → IsLiveFace m f → f < m.next_face) → AreTied w keys → (v : ℕ) → IsNewest nf (spokes_at w.fans v)
-newest-tied w keys l nv nf m view below t v = subst (IsNewest nf) (sym (t.spokes v)) (falling-newest v nf (faces_in w.sides keys) (faces_below w keys l nv nf m view below))
+newest-tied w keys l nv nf m view below t v = subst (IsNewest nf) (sym (t.spokes v)) (falling_spokes-newest v nf (faces_in w.sides keys) (faces_below w keys l nv nf m view below))
 
 pub few-tied : (w : Woven) (keys : Keys) (l : Limits) (nv nf : ℕ) (m : Mesh) → woven_mesh w keys l nv nf ≡ m → finite.len m.faces ≤ FACES_MAX → AreTied w keys → (v : ℕ) → length (spokes_at w.fans v) < 2 ^ 32
 few-tied w keys l nv nf m view limit t v =
-    let few = falling-few v (finite.entries (faces_in w.sides keys)) in
+    let few = falling_spokes-few v (finite.entries (faces_in w.sides keys)) in
     let long = ap length (t.spokes v) in
     let all = len-entries (faces_in w.sides keys) in
     let faces = ap (λ x. finite.len x.faces) view in

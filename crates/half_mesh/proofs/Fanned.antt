@@ -8,9 +8,9 @@ use Rattle.half_mesh.specs.declared.halves.Half.{Half}
 use Rattle.half_mesh.specs.declared.row.Row.{Row}
 use Rattle.half_mesh.specs.Fans.{Fan, Woven, spokes_at, IsNewest}
 use Rattle.std.specs.Option.{option_map}
-use Rattle.half_mesh.specs.Mapped.{mapped}
-use Rattle.half_mesh.specs.Walks.{Keyed, walk, spoke_of, fan_of, woven_of, IsChain, IsFanned, AreFanned}
-use Rattle.half_mesh.proofs.Mapped.{got_after, get-mapped, mapped-insert}
+use Rattle.half_mesh.specs.Mapped.{map_values}
+use Rattle.half_mesh.specs.Walks.{KeyedHalf, walk, spoke_of, fan_of, woven_of, IsChain, IsFanned, AreFanned}
+use Rattle.half_mesh.proofs.Mapped.{got_after, get-map_values, map_values-insert}
 use Rattle.half_mesh.proofs.Chains.{walk-chain, chain_stays}
 
 pub walk-fanned : (s : Slab Half) (v : ℕ) (row : Row) (f : IsFanned s v row) → walk s row.count row.first ≡ f.halves
@@ -49,7 +49,7 @@ pub fanned-none : (s : Slab Half) (v : ℕ) (row : Row) → row.count ≡ 0 → 
 fanned-none s v row none = record { halves = []; chain = tt; count = sym none }
 
 -- the bound of a chain is that of its first
-pub chain-newest : (s : Slab Half) (v b f key : ℕ) (es : List Keyed) → IsNewest f (map spoke_of es) → IsChain s v b key es → IsChain s v f key es
+pub chain-newest : (s : Slab Half) (v b f key : ℕ) (es : List KeyedHalf) → IsNewest f (map spoke_of es) → IsChain s v b key es → IsChain s v f key es
 chain-newest s v b f key [] newest c = tt
 chain-newest s v b f key (e ∷ rest) newest c = (c.0, c.1, c.2, newest, c.4)
 
@@ -75,26 +75,26 @@ fanned-attach s t v key row h f vacant up of_v small after newest new first coun
 -- what a vertex with a row has among the fans
 pub fan-at : (rows : finite.FinMap nat_cmp Row) (s : Slab Half) (w : Woven) (v : ℕ) (row : Row) (fan : Fan) → woven_of rows s ≡ w → Some row ≡ finite.get rows v → finite.get w.fans v ≡ Some fan → fan_of s row ≡ fan
 fan-at rows s w v row fan view there is =
-    let e = ap (option_map (fan_of s)) there ∙ sym (get-mapped (fan_of s) rows v) ∙ ap (λ x. finite.get x.fans v) view ∙ is in cc
+    let e = ap (option_map (fan_of s)) there ∙ sym (get-map_values (fan_of s) rows v) ∙ ap (λ x. finite.get x.fans v) view ∙ is in cc
 
 pub no_fan : (rows : finite.FinMap nat_cmp Row) (s : Slab Half) (w : Woven) (v : ℕ) → woven_of rows s ≡ w → None ≡ finite.get rows v → finite.get w.fans v ≡ None
-no_fan rows s w v view none = sym (ap (option_map (fan_of s)) none ∙ sym (get-mapped (fan_of s) rows v) ∙ ap (λ x. finite.get x.fans v) view)
+no_fan rows s w v view none = sym (ap (option_map (fan_of s)) none ∙ sym (get-map_values (fan_of s) rows v) ∙ ap (λ x. finite.get x.fans v) view)
 
 -- other rows and another slab, as fans: the fan of one vertex is another, and the half-edges of the others stay
 pub woven-insert : (rows : finite.FinMap nat_cmp Row) (s t : Slab Half) (v : ℕ) (row : Row) (fan : Fan) → AreFanned rows s → fan_of t row ≡ fan → ((q : ℕ) → q ≢ v → Stay s t q)
-    → mapped (fan_of t) (finite.insert rows v row) ≡ finite.insert (mapped (fan_of s) rows) v fan
-woven-insert rows s t v row fan all here stays = mapped-insert (fan_of s) (fan_of t) rows v row fan here (λ q z apart there. fan_stays s t q z (stays q apart) (all q z there))
+    → map_values (fan_of t) (finite.insert rows v row) ≡ finite.insert (map_values (fan_of s) rows) v fan
+woven-insert rows s t v row fan all here stays = map_values-insert (fan_of s) (fan_of t) rows v row fan here (λ q z apart there. fan_stays s t q z (stays q apart) (all q z there))
 
 -- the spokes of a vertex with a row
 pub spokes_at-row : (rows : finite.FinMap nat_cmp Row) (s : Slab Half) (w : Woven) (v : ℕ) (row : Row) (f : IsFanned s v row) → woven_of rows s ≡ w → Some row ≡ finite.get rows v → spokes_at w.fans v ≡ map spoke_of f.halves
 spokes_at-row rows s w v row f view there =
-    let found : finite.get w.fans v ≡ Some (fan_of s row) = sym (ap (λ x. finite.get x.fans v) view) ∙ get-mapped (fan_of s) rows v ∙ ap (option_map (fan_of s)) (sym there) in
+    let found : finite.get w.fans v ≡ Some (fan_of s row) = sym (ap (λ x. finite.get x.fans v) view) ∙ get-map_values (fan_of s) rows v ∙ ap (option_map (fan_of s)) (sym there) in
     ap (λ o. elim o [ None ↦ [] | Some fan ↦ fan.spokes ]) found ∙ ap (λ (x : Fan). x.spokes) (fan-fanned s v row f)
 
 -- the spokes of a vertex are those that a walk from its row finds
 pub spokes_at-walk : (rows : finite.FinMap nat_cmp Row) (s : Slab Half) (w : Woven) (v : ℕ) (row : Row) → woven_of rows s ≡ w → Some row ≡ finite.get rows v → spokes_at w.fans v ≡ map spoke_of (walk s row.count row.first)
 spokes_at-walk rows s w v row view there =
-    let found : finite.get w.fans v ≡ Some (fan_of s row) = sym (ap (λ x. finite.get x.fans v) view) ∙ get-mapped (fan_of s) rows v ∙ ap (option_map (fan_of s)) (sym there) in
+    let found : finite.get w.fans v ≡ Some (fan_of s row) = sym (ap (λ x. finite.get x.fans v) view) ∙ get-map_values (fan_of s) rows v ∙ ap (option_map (fan_of s)) (sym there) in
     ap (λ o. elim o [ None ↦ [] | Some fan ↦ fan.spokes ]) found
 
 pub spokes_at-none : (rows : finite.FinMap nat_cmp Row) (s : Slab Half) (w : Woven) (v : ℕ) → woven_of rows s ≡ w → None ≡ finite.get rows v → spokes_at w.fans v ≡ []
@@ -102,14 +102,14 @@ spokes_at-none rows s w v view none = ap (λ o. elim o [ None ↦ [] | Some fan 
 
 -- a vertex among the fans has a row
 pub row_there : (rows : finite.FinMap nat_cmp Row) (s : Slab Half) (w : Woven) (v : ℕ) → woven_of rows s ≡ w → IsSome (finite.get w.fans v) → IsSome (finite.get rows v)
-row_there rows s w v view live = seen (finite.get rows v) (ap is_some (sym (get-mapped (fan_of s) rows v) ∙ ap (λ x. finite.get x.fans v) view) ∙ live)
+row_there rows s w v view live = seen (finite.get rows v) (ap is_some (sym (get-map_values (fan_of s) rows v) ∙ ap (λ x. finite.get x.fans v) view) ∙ live)
   where
     seen : (o : Option Row) → is_some (option_map (fan_of s) o) ≡ true → is_some o ≡ true
     seen None e = cc
     seen (Some row) e = refl
 
 pub no_row : (rows : finite.FinMap nat_cmp Row) (s : Slab Half) (w : Woven) (v : ℕ) → woven_of rows s ≡ w → finite.get w.fans v ≡ None → finite.get rows v ≡ None
-no_row rows s w v view none = seen (finite.get rows v) (sym (get-mapped (fan_of s) rows v) ∙ ap (λ x. finite.get x.fans v) view ∙ none)
+no_row rows s w v view none = seen (finite.get rows v) (sym (get-map_values (fan_of s) rows v) ∙ ap (λ x. finite.get x.fans v) view ∙ none)
   where
     seen : (o : Option Row) → option_map (fan_of s) o ≡ None → o ≡ None
     seen None e = refl

@@ -4,14 +4,14 @@ use Rattle.slab.specs.Slab.{Slab, get}
 use Rattle.half_mesh.specs.declared.halves.Half.{Half}
 use Rattle.half_mesh.specs.declared.row.Row.{Row}
 use Rattle.half_mesh.specs.Fans.{IsOutside}
-use Rattle.half_mesh.specs.Walks.{Keyed, spoke_of, fan_of, IsChain, IsFanned}
+use Rattle.half_mesh.specs.Walks.{KeyedHalf, spoke_of, fan_of, IsChain, IsFanned}
 use Rattle.half_mesh.proofs.Fanned.{fan-fanned}
 
 -- the half-edges of the other faces stay
 abbrev pub OthersStay : Slab Half → Slab Half → ℕ → Type 0
 OthersStay s t f = (k : ℕ) (h : Half) → get s k ≡ Some h → h.face ≢ f → get t k ≡ Some h
 
-pub chain-outside : (s t : Slab Half) (v b key f : ℕ) (es : List Keyed) → OthersStay s t f → IsOutside f (map spoke_of es) → IsChain s v b key es → IsChain t v b key es
+pub chain-outside : (s t : Slab Half) (v b key f : ℕ) (es : List KeyedHalf) → OthersStay s t f → IsOutside f (map spoke_of es) → IsChain s v b key es → IsChain t v b key es
 chain-outside s t v b key f [] stays out c = tt
 chain-outside s t v b key f (e ∷ rest) stays out c = (c.0, stays e.0 e.1 c.1 out.0, c.2, c.3, chain-outside s t v e.1.face e.1.after f rest stays out.1 c.4)
 

@@ -6,18 +6,18 @@ use Rattle.std.proofs.lemmas.Bool.{cases_eq}
 use Rattle.slab.specs.Slab.{Slab, get}
 use Rattle.half_mesh.specs.declared.halves.Half.{Half}
 use Rattle.half_mesh.specs.declared.row.Row.{Row}
-use Rattle.half_mesh.specs.Mapped.{mapped}
-use Rattle.half_mesh.specs.Walks.{Keyed, spoke_of, fan_of, IsChain, IsFanned, AreFanned, Joins}
-use Rattle.half_mesh.proofs.Mapped.{mapped-alike}
+use Rattle.half_mesh.specs.Mapped.{map_values}
+use Rattle.half_mesh.specs.Walks.{KeyedHalf, spoke_of, fan_of, IsChain, IsFanned, AreFanned, Joins}
+use Rattle.half_mesh.proofs.Mapped.{map_values-alike}
 use Rattle.half_mesh.proofs.Fanned.{fan-fanned}
 
-pub record IsRejoined (t : Slab Half) (v b key : ℕ) (old : List Keyed) : Type 0 where
-  pub halves : List Keyed
+pub record IsRejoined (t : Slab Half) (v b key : ℕ) (old : List KeyedHalf) : Type 0 where
+  pub halves : List KeyedHalf
   pub chain : IsChain t v b key halves
   pub count : length halves ≡ length old
   pub spokes : map spoke_of halves ≡ map spoke_of old
 
-pub chain-joined : (s t : Slab Half) (k n v b key : ℕ) (es : List Keyed) → Joins s t k n → IsChain s v b key es → IsRejoined t v b key es
+pub chain-joined : (s t : Slab Half) (k n v b key : ℕ) (es : List KeyedHalf) → Joins s t k n → IsChain s v b key es → IsRejoined t v b key es
 chain-joined s t k n v b key [] j c = record { halves = []; chain = tt; count = refl; spokes = refl }
 chain-joined s t k n v b key (e ∷ rest) j c =
     let later = chain-joined s t k n v e.1.face e.1.after rest j c.4 in
@@ -44,8 +44,8 @@ fanned-joined s t k n v row j f =
     let r = rejoined s t k n v row j f in
     record { halves = r.halves; chain = r.chain; count = r.count ∙ f.count }
 
-pub fans-joined : (rows : finite.FinMap nat_cmp Row) (s t : Slab Half) (k n : ℕ) → Joins s t k n → AreFanned rows s → mapped (fan_of t) rows ≡ mapped (fan_of s) rows
-fans-joined rows s t k n j all = mapped-alike (fan_of s) (fan_of t) rows (λ q z there.
+pub fans-joined : (rows : finite.FinMap nat_cmp Row) (s t : Slab Half) (k n : ℕ) → Joins s t k n → AreFanned rows s → map_values (fan_of t) rows ≡ map_values (fan_of s) rows
+fans-joined rows s t k n j all = map_values-alike (fan_of s) (fan_of t) rows (λ q z there.
     let f = all q z there in
     fan-fanned t q z (fanned-joined s t k n q z j f)
     ∙ ap (λ ss. record { vertex = z.vertex; spokes = ss }) (rejoined s t k n q z j f).spokes

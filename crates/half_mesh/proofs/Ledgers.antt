@@ -11,8 +11,8 @@ use Rattle.mesh_base.specs.Sides.{has_corner}
 use Rattle.mesh_base.proofs.Finite.{got_after_remove}
 use Rattle.half_mesh.specs.Fans.{Spoke, Side, Sides, Woven, side_at, spokes_at, IsOutside}
 use Rattle.half_mesh.specs.States.{Buried, State}
-use Rattle.half_mesh.specs.Tied.{Keys, FaceMap, AreRings, AreTied, IsRing, corners_at, faces_in, falling, spoke_in, following}
-use Rattle.half_mesh.proofs.Mapped.{mapped-alike, got_after, get-mapped}
+use Rattle.half_mesh.specs.Tied.{Keys, FaceMap, AreRings, AreTied, IsRing, corners_at, faces_in, falling_spokes, spoke_in, next_corner}
+use Rattle.half_mesh.proofs.Mapped.{map_values-alike, got_after, get-map_values}
 use Rattle.half_mesh.proofs.Falling.{AllEntries, all_entries}
 use Rattle.half_mesh.proofs.FaceChanges.{corners-stay, own_ring}
 
@@ -33,7 +33,7 @@ pub rings-stay : (s t : Sides) (keys : Keys) → SidesStay s t keys → AreRings
 rings-stay s t keys stay r f key there = own_ring s t f key (of_face s t keys f key stay there) (r f key there)
 
 pub faces-stay : (s t : Sides) (keys : Keys) → SidesStay s t keys → AreRings s keys → faces_in t keys ≡ faces_in s keys
-faces-stay s t keys stay r = mapped-alike (corners_at s) (corners_at t) keys (λ f key there. corners-stay s t f key (of_face s t keys f key stay there) (r f key there))
+faces-stay s t keys stay r = map_values-alike (corners_at s) (corners_at t) keys (λ f key there. corners-stay s t f key (of_face s t keys f key stay there) (r f key there))
 
 pub no-rings : (s : Sides) (keys : Keys) → keys ≡ finite.empty → AreRings s keys
 no-rings s keys none f key there = let e : finite.get (finite.empty {X = ℕ} {R = nat_cmp}) f ≡ None = get-empty nat_cmp f in let n = ap (λ m. finite.get m f) none in cc
@@ -52,7 +52,7 @@ rings-less s keys f r g k there = r g k (got_after_remove keys f g k there).1
 pub tied-stays : (w x : Woven) (keys : Keys) → SidesStay w.sides x.sides keys → x.fans ≡ w.fans → AreTied w keys → AreTied x keys
 tied-stays w x keys stay fans t = record {
   rings = rings-stay w.sides x.sides keys stay t.rings;
-  spokes = λ v. ap (λ m. spokes_at m v) fans ∙ t.spokes v ∙ ap (λ m. falling v (finite.entries m)) (sym (faces-stay w.sides x.sides keys stay t.rings));
+  spokes = λ v. ap (λ m. spokes_at m v) fans ∙ t.spokes v ∙ ap (λ m. falling_spokes v (finite.entries m)) (sym (faces-stay w.sides x.sides keys stay t.rings));
 }
 
 -- a face that is not live has no spoke
@@ -60,10 +60,10 @@ outside-append : (f : ℕ) (xs ys : List Spoke) → IsOutside f xs → IsOutside
 outside-append f [] ys a b = b
 outside-append f (x ∷ xs) ys a b = (a.0, outside-append f xs ys a.1 b)
 
-outside_in : (v f : ℕ) (es : List (ℕ × Corners)) → AllEntries (λ q x. q ≢ f) es → IsOutside f (falling v es)
+outside_in : (v f : ℕ) (es : List (ℕ × Corners)) → AllEntries (λ q x. q ≢ f) es → IsOutside f (falling_spokes v es)
 outside_in v f [] apart = tt
 outside_in v f (e ∷ es) apart =
-    outside-append f (falling v es) (spoke_in v e) (outside_in v f es apart.1) (elim (has_corner e.1 v) as (λ h. IsOutside f (cond h (record { face = e.0; to = following e.1 v } ∷ []) [])) [ true ↦ (apart.0, tt) | false ↦ tt ])
+    outside-append f (falling_spokes v es) (spoke_in v e) (outside_in v f es apart.1) (elim (has_corner e.1 v) as (λ h. IsOutside f (cond h (record { face = e.0; to = next_corner e.1 v } ∷ []) [])) [ true ↦ (apart.0, tt) | false ↦ tt ])
 
 differs : (m : FaceMap) (f q : ℕ) (x : Corners) → finite.get m f ≡ None → finite.get m q ≡ Some x → q ≢ f
 differs m f q x none at same = let here = ap (finite.get m) same in cc
@@ -77,10 +77,10 @@ some_each g (Some k) = refl
 
 -- a face with a key is there
 pub face_there : (sides : Sides) (keys : Keys) (f : ℕ) → IsSome (finite.get keys f) → IsSome (finite.get (faces_in sides keys) f)
-face_there sides keys f h = ap is_some (get-mapped (corners_at sides) keys f) ∙ some_each (corners_at sides) (finite.get keys f) ∙ h
+face_there sides keys f h = ap is_some (get-map_values (corners_at sides) keys f) ∙ some_each (corners_at sides) (finite.get keys f) ∙ h
 
 pub key_there : (sides : Sides) (keys : Keys) (f : ℕ) → IsSome (finite.get (faces_in sides keys) f) → IsSome (finite.get keys f)
-key_there sides keys f h = sym (ap is_some (get-mapped (corners_at sides) keys f) ∙ some_each (corners_at sides) (finite.get keys f)) ∙ h
+key_there sides keys f h = sym (ap is_some (get-map_values (corners_at sides) keys f) ∙ some_each (corners_at sides) (finite.get keys f)) ∙ h
 
 pub none_if : {X : Type 0} (o : Option X) → (is_some o ≡ true → ⊥) → o ≡ None
 none_if None h = refl

@@ -15,8 +15,8 @@ use Rattle.mesh_base.specs.Sides.{has_corner}
 use Rattle.mesh_base.proofs.WalkSteps.{both_of, less_true}
 use Rattle.half_mesh.specs.Fans.{Spoke, Woven, side_at, spokes_at, put_spoke, IsOutside, CanRelink}
 use Rattle.half_mesh.proofs.TiedLaws.{spokes_at-got}
-use Rattle.half_mesh.specs.Tied.{Keys, IsRing, HasRaised, AreTied, corners_at, faces_in, following, spoke_in, falling}
-use Rattle.half_mesh.proofs.Mapped.{mapped-insert, get-mapped, got_after}
+use Rattle.half_mesh.specs.Tied.{Keys, IsRing, HasRaised, AreTied, corners_at, faces_in, next_corner, spoke_in, falling_spokes}
+use Rattle.half_mesh.proofs.Mapped.{map_values-insert, get-map_values, got_after}
 use Rattle.half_mesh.proofs.Falling.{AllEntries}
 use Rattle.half_mesh.proofs.FaceChanges.{corners-ring, ring-stays, corners-stay, own_ring}
 use Rattle.half_mesh.proofs.Rings.{got_some, HasSpokes, spoke_in-first, spoke_in-second, spoke_in-third, spoke_in-none}
@@ -60,10 +60,10 @@ over-append : (f : ℕ) (xs ys : List Spoke) → AreOver f xs → AreOver f ys �
 over-append f [] ys h k = k
 over-append f (x ∷ xs) ys h k = (h.0, over-append f xs ys h.1 k)
 
-falling-over : (v f : ℕ) (es : List (ℕ × Corners)) → AllEntries (λ q x. f < q) es → AreOver f (falling v es)
-falling-over v f [] h = tt
-falling-over v f (e ∷ es) h = over-append f (falling v es) (spoke_in v e) (falling-over v f es h.1)
-    (elim (has_corner e.1 v) as (λ b. AreOver f (cond b (record { face = e.0; to = following e.1 v } ∷ []) [])) [ true ↦ (h.0, tt) | false ↦ tt ])
+falling_spokes-over : (v f : ℕ) (es : List (ℕ × Corners)) → AllEntries (λ q x. f < q) es → AreOver f (falling_spokes v es)
+falling_spokes-over v f [] h = tt
+falling_spokes-over v f (e ∷ es) h = over-append f (falling_spokes v es) (spoke_in v e) (falling_spokes-over v f es h.1)
+    (elim (has_corner e.1 v) as (λ b. AreOver f (cond b (record { face = e.0; to = next_corner e.1 v } ∷ []) [])) [ true ↦ (h.0, tt) | false ↦ tt ])
 
 above_all : (f a : ℕ) (es : List (ℕ × Corners)) → f < a → T (below_all nat_cmp a es) → AllEntries (λ q x. f < q) es
 above_all f a [] h below = tt
@@ -73,49 +73,49 @@ above_all f a (e ∷ es) h below =
     let more : f < e.0 = grind (arith, nat_tests) in
     (more, above_all f a es h parts.1)
 
-falling-put : (v f : ℕ) (c : Corners) (es : List (ℕ × Corners)) → T (is_sorted nat_cmp es) → find nat_cmp f es ≡ None → falling v (put nat_cmp f c es) ≡ put_all (spoke_in v (f, c)) (falling v es)
-falling-put v f c [] sorted none = elim (has_corner c v) as (λ b. cond b (record { face = f; to = following c v } ∷ []) [] ≡ put_all (cond b (record { face = f; to = following c v } ∷ []) []) []) [ true ↦ refl | false ↦ refl ]
-falling-put v f c (e ∷ es) sorted none =
+falling_spokes-put : (v f : ℕ) (c : Corners) (es : List (ℕ × Corners)) → T (is_sorted nat_cmp es) → find nat_cmp f es ≡ None → falling_spokes v (put nat_cmp f c es) ≡ put_all (spoke_in v (f, c)) (falling_spokes v es)
+falling_spokes-put v f c [] sorted none = elim (has_corner c v) as (λ b. cond b (record { face = f; to = next_corner c v } ∷ []) [] ≡ put_all (cond b (record { face = f; to = next_corner c v } ∷ []) []) []) [ true ↦ refl | false ↦ refl ]
+falling_spokes-put v f c (e ∷ es) sorted none =
     let parts = both_of (below_all nat_cmp e.0 es) (is_sorted nat_cmp es) sorted in
-    by_less parts.0 (falling-put v f c es parts.1) (nat_lt f e.0) refl
+    by_less parts.0 (falling_spokes-put v f c es parts.1) (nat_lt f e.0) refl
   where
     sp : Spoke
-    sp = record { face = f; to = following c v }
+    sp = record { face = f; to = next_corner c v }
 
-    by_equal : (find nat_cmp f es ≡ None → falling v (put nat_cmp f c es) ≡ put_all (spoke_in v (f, c)) (falling v es)) → nat_lt f e.0 ≡ false → (b : Bool) → (f == e.0) ≡ b
-        → falling v (by_order (cond b Equal Greater) ((f, c) ∷ e ∷ es) ((e.0, c) ∷ es) (e ∷ put nat_cmp f c es)) ≡ put_all (spoke_in v (f, c)) (falling v (e ∷ es))
+    by_equal : (find nat_cmp f es ≡ None → falling_spokes v (put nat_cmp f c es) ≡ put_all (spoke_in v (f, c)) (falling_spokes v es)) → nat_lt f e.0 ≡ false → (b : Bool) → (f == e.0) ≡ b
+        → falling_spokes v (by_order (cond b Equal Greater) ((f, c) ∷ e ∷ es) ((e.0, c) ∷ es) (e ∷ put nat_cmp f c es)) ≡ put_all (spoke_in v (f, c)) (falling_spokes v (e ∷ es))
     by_equal later not_less true t =
         absurd (let found = sym (ap (λ b. cond b (Some e.1) (find nat_cmp f es)) (unsigned_tied f e.0 ∙ t)) ∙ none in cc)
     by_equal later not_less false t =
         let rest : find nat_cmp f es ≡ None = sym (ap (λ b. cond b (Some e.1) (find nat_cmp f es)) (unsigned_tied f e.0 ∙ t)) ∙ none in
         let low : e.0 < f = grind (arith, nat_tests) in
         ap (λ ss. ss ++ spoke_in v e) (later rest)
-        ∙ elim (has_corner c v) as (λ b. put_all (cond b (record { face = f; to = following c v } ∷ []) []) (falling v es) ++ spoke_in v e ≡ put_all (cond b (record { face = f; to = following c v } ∷ []) []) (falling v es ++ spoke_in v e)) [
-          | true ↦ sym (put-before (record { face = f; to = following c v }) (falling v es) (spoke_in v e) (elim (has_corner e.1 v) as (λ b. AreUnder f (cond b (record { face = e.0; to = following e.1 v } ∷ []) [])) [ true ↦ (low, tt) | false ↦ tt ]))
+        ∙ elim (has_corner c v) as (λ b. put_all (cond b (record { face = f; to = next_corner c v } ∷ []) []) (falling_spokes v es) ++ spoke_in v e ≡ put_all (cond b (record { face = f; to = next_corner c v } ∷ []) []) (falling_spokes v es ++ spoke_in v e)) [
+          | true ↦ sym (put-before (record { face = f; to = next_corner c v }) (falling_spokes v es) (spoke_in v e) (elim (has_corner e.1 v) as (λ b. AreUnder f (cond b (record { face = e.0; to = next_corner e.1 v } ∷ []) [])) [ true ↦ (low, tt) | false ↦ tt ]))
           | false ↦ refl
         ]
 
-    by_less : T (below_all nat_cmp e.0 es) → (find nat_cmp f es ≡ None → falling v (put nat_cmp f c es) ≡ put_all (spoke_in v (f, c)) (falling v es)) → (b : Bool) → nat_lt f e.0 ≡ b
-        → falling v (put nat_cmp f c (e ∷ es)) ≡ put_all (spoke_in v (f, c)) (falling v (e ∷ es))
+    by_less : T (below_all nat_cmp e.0 es) → (find nat_cmp f es ≡ None → falling_spokes v (put nat_cmp f c es) ≡ put_all (spoke_in v (f, c)) (falling_spokes v es)) → (b : Bool) → nat_lt f e.0 ≡ b
+        → falling_spokes v (put nat_cmp f c (e ∷ es)) ≡ put_all (spoke_in v (f, c)) (falling_spokes v (e ∷ es))
     by_less below later true t =
         let less : f < e.0 = grind (arith, nat_tests) in
-        let over = falling-over v f (e ∷ es) (less, above_all f e.0 es less below) in
-        ap (λ b. falling v (by_order (cond b Less (cond (f == e.0) Equal Greater)) ((f, c) ∷ e ∷ es) ((e.0, c) ∷ es) (e ∷ put nat_cmp f c es))) t
-        ∙ elim (has_corner c v) as (λ b. falling v (e ∷ es) ++ cond b (record { face = f; to = following c v } ∷ []) [] ≡ put_all (cond b (record { face = f; to = following c v } ∷ []) []) (falling v (e ∷ es))) [
-          | true ↦ sym (put-over (record { face = f; to = following c v }) (falling v (e ∷ es)) over)
-          | false ↦ append-nil (falling v (e ∷ es))
+        let over = falling_spokes-over v f (e ∷ es) (less, above_all f e.0 es less below) in
+        ap (λ b. falling_spokes v (by_order (cond b Less (cond (f == e.0) Equal Greater)) ((f, c) ∷ e ∷ es) ((e.0, c) ∷ es) (e ∷ put nat_cmp f c es))) t
+        ∙ elim (has_corner c v) as (λ b. falling_spokes v (e ∷ es) ++ cond b (record { face = f; to = next_corner c v } ∷ []) [] ≡ put_all (cond b (record { face = f; to = next_corner c v } ∷ []) []) (falling_spokes v (e ∷ es))) [
+          | true ↦ sym (put-over (record { face = f; to = next_corner c v }) (falling_spokes v (e ∷ es)) over)
+          | false ↦ append-nil (falling_spokes v (e ∷ es))
         ]
     by_less below later false t =
-        ap (λ b. falling v (by_order (cond b Less (cond (f == e.0) Equal Greater)) ((f, c) ∷ e ∷ es) ((e.0, c) ∷ es) (e ∷ put nat_cmp f c es))) t
+        ap (λ b. falling_spokes v (by_order (cond b Less (cond (f == e.0) Equal Greater)) ((f, c) ∷ e ∷ es) ((e.0, c) ∷ es) (e ∷ put nat_cmp f c es))) t
         ∙ by_equal later t (f == e.0) refl
 
 -- the spokes of a vertex in the faces with one face more
-pub falling-insert : (v f : ℕ) (c : Corners) (m : FinMap nat_cmp Corners) → finite.get m f ≡ None → falling v (finite.entries (finite.insert m f c)) ≡ put_all (spoke_in v (f, c)) (falling v (finite.entries m))
-falling-insert v f c m none = ap (falling v) (entries-insert nat_cmp_total m f c) ∙ falling-put v f c (finite.entries m) (entries_sorted m) (sym (get-entries m f) ∙ none)
+pub falling_spokes-insert : (v f : ℕ) (c : Corners) (m : FinMap nat_cmp Corners) → finite.get m f ≡ None → falling_spokes v (finite.entries (finite.insert m f c)) ≡ put_all (spoke_in v (f, c)) (falling_spokes v (finite.entries m))
+falling_spokes-insert v f c m none = ap (falling_spokes v) (entries-insert nat_cmp_total m f c) ∙ falling_spokes-put v f c (finite.entries m) (entries_sorted m) (sym (get-entries m f) ∙ none)
 
 pub faces-raised : (w x : Woven) (keys : Keys) (f : ℕ) (c : Corners) (key : ℕ) → AreTied w keys → HasRaised w x f c → IsRing w.sides f c key → faces_in x.sides (finite.insert keys f key) ≡ finite.insert (faces_in w.sides keys) f c
 faces-raised w x keys f c key t h ring =
-    mapped-insert (corners_at w.sides) (corners_at x.sides) keys f key c (corners-ring x.sides f c key (ring-stays w.sides x.sides f c key (λ l side at of_f. h.sides l ∙ at) ring))
+    map_values-insert (corners_at w.sides) (corners_at x.sides) keys f key c (corners-ring x.sides f c key (ring-stays w.sides x.sides f c key (λ l side at of_f. h.sides l ∙ at) ring))
     (λ q k apart there. corners-stay w.sides x.sides q k (λ l side at of_q. h.sides l ∙ at) (t.rings q k there))
 
 pub tied-raised : (w x : Woven) (keys : Keys) (f : ℕ) (c : Corners) (key : ℕ) → AreTied w keys → HasRaised w x f c → IsRing w.sides f c key → AreDifferent c → finite.get keys f ≡ None → AreTied x (finite.insert keys f key)
@@ -130,7 +130,7 @@ tied-raised w x keys f c key t h ring different none = record {
   spokes = λ v.
       all v
       ∙ ap (put_all (spoke_in v (f, c))) (t.spokes v)
-      ∙ sym (ap (λ m. falling v (finite.entries m)) (faces-raised w x keys f c key t h ring) ∙ falling-insert v f c (faces_in w.sides keys) (get-mapped (corners_at w.sides) keys f ∙ ap (option_map (corners_at w.sides)) none));
+      ∙ sym (ap (λ m. falling_spokes v (finite.entries m)) (faces-raised w x keys f c key t h ring) ∙ falling_spokes-insert v f c (faces_in w.sides keys) (get-map_values (corners_at w.sides) keys f ∙ ap (option_map (corners_at w.sides)) none));
 }
   where
     all : (v : ℕ) → spokes_at x.fans v ≡ put_all (spoke_in v (f, c)) (spokes_at w.fans v)

@@ -5,7 +5,7 @@ use Rattle.slab.specs.Slab.{Slab, get}
 use Rattle.half_mesh.specs.declared.halves.Half.{Half}
 use Rattle.half_mesh.specs.declared.row.Row.{Row}
 use Rattle.half_mesh.specs.Fans.{Spoke, put_spoke, IsOutside}
-use Rattle.half_mesh.specs.Walks.{Keyed, walk, spoke_of, fan_of, IsChain, IsFanned, Resets, last_newer, IsPutAfter, put_in, IsLinkedIn}
+use Rattle.half_mesh.specs.Walks.{KeyedHalf, walk, spoke_of, fan_of, IsChain, IsFanned, Resets, last_newer, IsPutAfter, put_in, IsLinkedIn}
 use Rattle.half_mesh.proofs.Chains.{walk-chain, chain_stays, keys_differ}
 use Rattle.half_mesh.proofs.ChainPut.{AreOut, chain-put}
 use Rattle.half_mesh.proofs.Fanned.{Stay, fan-fanned, walk-fanned}
@@ -20,11 +20,11 @@ pub record IsRelinked (s t : Slab Half) (v : ℕ) (row new : Row) (sp : Spoke) :
 abbrev pub moved_row : Row → ℕ × ℕ → Row
 moved_row row to = record { vertex = row.vertex; first = to.0; count = to.1 }
 
-out_of : (f : ℕ) (es : List Keyed) → IsOutside f (map spoke_of es) → AreOut f es
+out_of : (f : ℕ) (es : List KeyedHalf) → IsOutside f (map spoke_of es) → AreOut f es
 out_of f [] h = tt
 out_of f (e ∷ es) h = (h.0, out_of f es h.1)
 
-last_there : (s : Slab Half) (v b f : ℕ) (e : Keyed) (rest : List Keyed) → IsChain s v b e.0 (e ∷ rest) → f < e.1.face
+last_there : (s : Slab Half) (v b f : ℕ) (e : KeyedHalf) (rest : List KeyedHalf) → IsChain s v b e.0 (e ∷ rest) → f < e.1.face
     → (get s (last_newer f e rest).0 ≡ Some (last_newer f e rest).1) × ((last_newer f e rest).1.origin ≡ v) × (f < (last_newer f e rest).1.face)
 last_there s v b f e [] c newer = (c.1, c.2, newer)
 last_there s v b f e (x ∷ rest) c newer =
@@ -48,11 +48,11 @@ module _ (s t : Slab Half) (v : ℕ) (row : Row) (key : ℕ) (h : Half) (f : IsF
         others = λ q apart k g there of_q. same k ∙ there;
       }
 
-  no_halves : (es : List Keyed) → IsChain s v (2 ^ 32) row.first es → get s row.first ≡ None → es ≡ []
+  no_halves : (es : List KeyedHalf) → IsChain s v (2 ^ 32) row.first es → get s row.first ≡ None → es ≡ []
   no_halves [] c none = refl
   no_halves (e ∷ es) c none = absurd (let at = c.1 in let same = ap (get s) c.0 in cc)
 
-  count_none : (es : List Keyed) → length es ≡ 0 → es ≡ []
+  count_none : (es : List KeyedHalf) → length es ≡ 0 → es ≡ []
   count_none [] e = refl
   count_none (x ∷ es) e = absurd (omega arith)
 

@@ -11,7 +11,7 @@ use Rattle.mesh_base.specs.Mesh.{Mesh, IdSet, IsSound, IsLiveVertex, IsLiveFace,
 use Rattle.mesh_base.specs.Changes.{with_vertex, with_face, without_face, without_vertex, with_point}
 use Rattle.mesh_base.proofs.Finite.{got_after_insert, live_after_insert, live_stays, got_after_remove, live_after_remove, live_inserted, none_in_empty}
 use Rattle.mesh_base.proofs.MeshLaws.{len-insert_le, equal_symmetric, sound-without_face, sound-without_vertex}
-use Rattle.half_mesh.specs.States.{State, Buried, none_buried, with_mesh, with_some, carried, bury_face, bury_vertex, raise_face, raise_vertex, unmake_face, unmake_vertex, without_solid, CanRaiseFace, CanRaiseVertex, CanUnmakeFace, CanUnmakeVertex, AreApart, HasNone}
+use Rattle.half_mesh.specs.States.{State, Buried, none_buried, with_mesh, with_some, carry, bury_face, bury_vertex, raise_face, raise_vertex, unmake_face, unmake_vertex, without_solid, CanRaiseFace, CanRaiseVertex, CanUnmakeFace, CanUnmakeVertex, AreApart, HasNone}
 use Rattle.half_mesh.proofs.Mapped.{tied}
 use Rattle.half_mesh.proofs.Rings.{got_some}
 
@@ -33,8 +33,8 @@ not_live None e h = cc
 not_live (Some x) e h = cc
 
 -- what is carried
-pub carried-some : {X : Type 0} (from to : FinMap nat_cmp X) (k : ℕ) (x : X) → finite.get from k ≡ Some x → carried from to k ≡ finite.insert to k x
-carried-some from to k x there = ap (with_some to k) there
+pub carry-some : {X : Type 0} (from to : FinMap nat_cmp X) (k : ℕ) (x : X) → finite.get from k ≡ Some x → carry from to k ≡ finite.insert to k x
+carry-some from to k x there = ap (with_some to k) there
 
 -- nothing is buried
 pub apart-none : (m : Mesh) → AreApart (record { mesh = m; buried = none_buried })
@@ -105,9 +105,9 @@ pub apart-bury_face : (s : State) (f : ℕ) → AreApart s → IsSound s.mesh �
 apart-bury_face s f a sound live =
     let at = got_some (finite.get s.mesh.faces f) live in
     let c = at.0 in
-    let now = carried-some s.mesh.faces s.buried.faces f c at.1 in
-    let got : (q : ℕ) (d : Corners) → finite.get (carried s.mesh.faces s.buried.faces f) q ≡ Some d → ((q ≡ f) × (c ≡ d)) ⊎ (finite.get s.buried.faces q ≡ Some d) = λ q d h. got_after_insert s.buried.faces f c q d (ap (λ m. finite.get m q) (sym now) ∙ h) in
-    let some : (q : ℕ) → IsSome (finite.get (carried s.mesh.faces s.buried.faces f) q) → (q ≡ f) ⊎ IsSome (finite.get s.buried.faces q) = λ q h. live_after_insert s.buried.faces f c q (ap (λ m. is_some (finite.get m q)) (sym now) ∙ h) in
+    let now = carry-some s.mesh.faces s.buried.faces f c at.1 in
+    let got : (q : ℕ) (d : Corners) → finite.get (carry s.mesh.faces s.buried.faces f) q ≡ Some d → ((q ≡ f) × (c ≡ d)) ⊎ (finite.get s.buried.faces q ≡ Some d) = λ q d h. got_after_insert s.buried.faces f c q d (ap (λ m. finite.get m q) (sym now) ∙ h) in
+    let some : (q : ℕ) → IsSome (finite.get (carry s.mesh.faces s.buried.faces f) q) → (q ≡ f) ⊎ IsSome (finite.get s.buried.faces q) = λ q h. live_after_insert s.buried.faces f c q (ap (λ m. is_some (finite.get m q)) (sym now) ∙ h) in
     let below : (v : ℕ) → IsLiveVertex s.mesh v → v < s.mesh.next_vertex = λ v h. (sound.is_mesh.vertex_ids v h).1 in
     let corners = sound.is_mesh.live_corners f c at.1 in
     record {
@@ -125,8 +125,8 @@ apart-bury_face s f a sound live =
 pub apart-bury_vertex : (s : State) (v : ℕ) → AreApart s → IsSound s.mesh → IsLiveVertex s.mesh v → AreApart (bury_vertex s v)
 apart-bury_vertex s v a sound live =
     let at = got_some (finite.get s.mesh.points v) live in
-    let now = carried-some s.mesh.points s.buried.points v at.0 at.1 in
-    let some : (q : ℕ) → IsSome (finite.get (carried s.mesh.points s.buried.points v) q) → (q ≡ v) ⊎ IsSome (finite.get s.buried.points q) = λ q h. live_after_insert s.buried.points v at.0 q (ap (λ m. is_some (finite.get m q)) (sym now) ∙ h) in
+    let now = carry-some s.mesh.points s.buried.points v at.0 at.1 in
+    let some : (q : ℕ) → IsSome (finite.get (carry s.mesh.points s.buried.points v) q) → (q ≡ v) ⊎ IsSome (finite.get s.buried.points q) = λ q h. live_after_insert s.buried.points v at.0 q (ap (λ m. is_some (finite.get m q)) (sym now) ∙ h) in
     record {
       vertices = λ q h. ⊎_elim (λ e. ap (finite.get (finite.remove s.mesh.points v)) e ∙ gone s.mesh.points v) (λ old. still_none s.mesh.points v q (a.vertices q old)) (some q h);
       vertex_ids = λ q h. ⊎_elim (λ e. subst (λ j. (1 ≤ j) × (j < s.mesh.next_vertex)) (sym e) (sound.is_mesh.vertex_ids v live)) (λ old. a.vertex_ids q old) (some q h);
@@ -139,7 +139,7 @@ apart-bury_vertex s v a sound live =
 pub apart-raise_face : (s : State) (f : ℕ) → AreApart s → IsSome (finite.get s.buried.faces f) → AreApart (raise_face s f)
 apart-raise_face s f a there =
     let at = got_some (finite.get s.buried.faces f) there in
-    let now = carried-some s.buried.faces s.mesh.faces f at.0 at.1 in
+    let now = carry-some s.buried.faces s.mesh.faces f at.0 at.1 in
     record {
       vertices = a.vertices;
       vertex_ids = a.vertex_ids;
@@ -152,7 +152,7 @@ apart-raise_face s f a there =
 pub apart-raise_vertex : (s : State) (v : ℕ) → AreApart s → IsSome (finite.get s.buried.points v) → AreApart (raise_vertex s v)
 apart-raise_vertex s v a there =
     let at = got_some (finite.get s.buried.points v) there in
-    let now = carried-some s.buried.points s.mesh.points v at.0 at.1 in
+    let now = carry-some s.buried.points s.mesh.points v at.0 at.1 in
     record {
       vertices = λ q h. let old = live_after_remove s.buried.points v q h in ap (λ m. finite.get m q) now ∙ none_but s.mesh.points v q at.0 old.0 (a.vertices q old.1);
       vertex_ids = λ q h. a.vertex_ids q (live_after_remove s.buried.points v q h).1;
@@ -209,8 +209,8 @@ sound-raise_face s f sound a can =
     let m = s.mesh in
     let at = got_some (finite.get s.buried.faces f) can.buried in
     let c = at.0 in
-    let now = carried-some s.buried.faces m.faces f c at.1 in
-    let got : (q : ℕ) (d : Corners) → finite.get (carried s.buried.faces m.faces f) q ≡ Some d → ((q ≡ f) × (c ≡ d)) ⊎ (finite.get m.faces q ≡ Some d) = λ q d h. got_after_insert m.faces f c q d (ap (λ x. finite.get x q) (sym now) ∙ h) in
+    let now = carry-some s.buried.faces m.faces f c at.1 in
+    let got : (q : ℕ) (d : Corners) → finite.get (carry s.buried.faces m.faces f) q ≡ Some d → ((q ≡ f) × (c ≡ d)) ⊎ (finite.get m.faces q ≡ Some d) = λ q d h. got_after_insert m.faces f c q d (ap (λ x. finite.get x q) (sym now) ∙ h) in
     let new : (g : ℕ) (d : Corners) → HasCorners m g d → equal_up_to_rotation d c ≡ false = λ g d h. can.new g c d at.1 h in
     record {
       is_mesh = record {
@@ -244,14 +244,14 @@ sound-raise_vertex s v sound a can =
     let m = s.mesh in
     let at = got_some (finite.get s.buried.points v) can.buried in
     let p = at.0 in
-    let now = carried-some s.buried.points m.points v p at.1 in
-    let stays : (q : ℕ) → IsLiveVertex m q → IsSome (finite.get (carried s.buried.points m.points v) q) = λ q h. ap (λ x. is_some (finite.get x q)) now ∙ live_stays m.points v p q h in
-    let here : IsSome (finite.get (carried s.buried.points m.points v) v) = ap (λ x. is_some (finite.get x v)) now ∙ live_inserted m.points v p in
+    let now = carry-some s.buried.points m.points v p at.1 in
+    let stays : (q : ℕ) → IsLiveVertex m q → IsSome (finite.get (carry s.buried.points m.points v) q) = λ q h. ap (λ x. is_some (finite.get x q)) now ∙ live_stays m.points v p q h in
+    let here : IsSome (finite.get (carry s.buried.points m.points v) v) = ap (λ x. is_some (finite.get x v)) now ∙ live_inserted m.points v p in
     record {
       is_mesh = record {
         vertex_ids = λ q h. ⊎_elim (λ e. subst (λ j. (1 ≤ j) × (j < m.next_vertex)) (sym e) (a.vertex_ids v can.buried)) (λ old. sound.is_mesh.vertex_ids q old) (live_after_insert m.points v p q (ap (λ x. is_some (finite.get x q)) (sym now) ∙ h));
         face_ids = sound.is_mesh.face_ids;
-        solid_ids = λ q h. marked m.solid (carried s.buried.points m.points v) v (λ r is. stays r (sound.is_mesh.solid_ids r is)) here (finite.get s.buried.solid v) q h;
+        solid_ids = λ q h. marked m.solid (carry s.buried.points m.points v) v (λ r is. stays r (sound.is_mesh.solid_ids r is)) here (finite.get s.buried.solid v) q h;
         live_corners = λ f c h. let old = sound.is_mesh.live_corners f c h in (stays c.first old.0, stays c.second old.1, stays c.third old.2);
         different_corners = sound.is_mesh.different_corners;
         different_faces = sound.is_mesh.different_faces;

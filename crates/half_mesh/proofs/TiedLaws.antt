@@ -11,11 +11,11 @@ use Rattle.mesh_base.specs.declared.ids.Corners.{Corners}
 use Rattle.mesh_base.specs.Mesh.{Mesh, IsSound, IsLiveVertex, IsLiveFace, AreDifferent}
 use Rattle.mesh_base.specs.Sides.{faces_running, faces_at}
 use Rattle.half_mesh.specs.Fans.{Spoke, Fan, Fans, Woven, spokes_at, spokes_to, faces_of}
-use Rattle.half_mesh.specs.Mapped.{mapped}
-use Rattle.half_mesh.specs.Tied.{Keys, corners_at, faces_in, woven_mesh, falling, AreTied}
-use Rattle.half_mesh.proofs.Mapped.{get-mapped, mapped-empty, tied}
+use Rattle.half_mesh.specs.Mapped.{map_values}
+use Rattle.half_mesh.specs.Tied.{Keys, corners_at, faces_in, woven_mesh, falling_spokes, AreTied}
+use Rattle.half_mesh.proofs.Mapped.{get-map_values, map_values-empty, tied}
 use Rattle.half_mesh.proofs.Vertices.{get-points}
-use Rattle.half_mesh.proofs.Falling.{all_entries, running-falling, faces_at-falling}
+use Rattle.half_mesh.proofs.Falling.{all_entries, running-falling_spokes, faces_at-falling_spokes}
 use Rattle.mesh_base.specs.declared.limits.Limits.{Limits}
 
 -- lists that are read from their end
@@ -31,14 +31,14 @@ nth-reverse xs n h =
 pub running-tied : (w : Woven) (keys : Keys) (l : Limits) (nv nf : ℕ) (m : Mesh) (u v : ℕ) → woven_mesh w keys l nv nf ≡ m → AreTied w keys → IsSound m → reverse (faces_of (spokes_to v (spokes_at w.fans u))) ≡ faces_running m u v
 running-tied w keys l nv nf m u v view t sound =
     let faces : faces_in w.sides keys ≡ m.faces = ap (λ x. x.faces) view in
-    ap (λ ss. reverse (faces_of (spokes_to v ss))) (t.spokes u ∙ ap (λ x. falling u (finite.entries x)) faces)
-    ∙ running-falling u v (finite.entries m.faces) (all_entries (λ q c. AreDifferent c) m.faces sound.is_mesh.different_corners)
+    ap (λ ss. reverse (faces_of (spokes_to v ss))) (t.spokes u ∙ ap (λ x. falling_spokes u (finite.entries x)) faces)
+    ∙ running-falling_spokes u v (finite.entries m.faces) (all_entries (λ q c. AreDifferent c) m.faces sound.is_mesh.different_corners)
 
 pub at-tied : (w : Woven) (keys : Keys) (l : Limits) (nv nf : ℕ) (m : Mesh) (v : ℕ) → woven_mesh w keys l nv nf ≡ m → AreTied w keys → reverse (faces_of (spokes_at w.fans v)) ≡ faces_at m v
 at-tied w keys l nv nf m v view t =
     let faces : faces_in w.sides keys ≡ m.faces = ap (λ x. x.faces) view in
-    ap (λ ss. reverse (faces_of ss)) (t.spokes v ∙ ap (λ x. falling v (finite.entries x)) faces)
-    ∙ faces_at-falling v (finite.entries m.faces)
+    ap (λ ss. reverse (faces_of ss)) (t.spokes v ∙ ap (λ x. falling_spokes v (finite.entries x)) faces)
+    ∙ faces_at-falling_spokes v (finite.entries m.faces)
 
 length-faces_of : (spokes : List Spoke) → length (faces_of spokes) ≡ length spokes
 length-faces_of [] = refl
@@ -93,7 +93,7 @@ dead_fan w keys l nv nf m v view dead =
 
 -- a face that is not live has no key
 pub dead_key : (w : Woven) (keys : Keys) (l : Limits) (nv nf : ℕ) (m : Mesh) (f : ℕ) → woven_mesh w keys l nv nf ≡ m → (IsLiveFace m f → ⊥) → finite.get keys f ≡ None
-dead_key w keys l nv nf m f view dead = seen (finite.get keys f) (λ some. dead (ap is_some (sym (ap (λ x. finite.get x.faces f) view) ∙ get-mapped (corners_at w.sides) keys f) ∙ some))
+dead_key w keys l nv nf m f view dead = seen (finite.get keys f) (λ some. dead (ap is_some (sym (ap (λ x. finite.get x.faces f) view) ∙ get-map_values (corners_at w.sides) keys f) ∙ some))
   where
     seen : (o : Option ℕ) → (is_some (option_map (corners_at w.sides) o) ≡ true → ⊥) → o ≡ None
     seen None e = refl
@@ -118,7 +118,7 @@ tied-empty w keys no_fans no_keys = record {
   spokes = λ v.
       let none : finite.get (finite.empty {X = Fan} {R = nat_cmp}) v ≡ None = get-empty nat_cmp v in
       let left : spokes_at w.fans v ≡ [] = ap (λ o. elim o [ None ↦ [] | Some x ↦ x.spokes ]) (ap (λ m. finite.get m v) no_fans ∙ none) in
-      left ∙ sym (ap (λ m. falling v (finite.entries m)) (ap (mapped (corners_at w.sides)) no_keys ∙ mapped-empty (corners_at w.sides)) ∙ ap (falling v) (entries-empty Corners));
+      left ∙ sym (ap (λ m. falling_spokes v (finite.entries m)) (ap (map_values (corners_at w.sides)) no_keys ∙ map_values-empty (corners_at w.sides)) ∙ ap (falling_spokes v) (entries-empty Corners));
 }
 
 no_faces : (spokes : List Spoke) → reverse (faces_of spokes) ≡ [] → spokes ≡ []

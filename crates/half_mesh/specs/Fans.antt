@@ -66,8 +66,8 @@ abbrev pub spokes_at : Fans → ℕ → List Spoke
 spokes_at fans v = elim (finite.get fans v) [ None ↦ [] | Some fan ↦ fan.spokes ]
 
 -- a vertex with no spoke
-abbrev pub bare : Vertex → Fan
-bare vertex = record { vertex = vertex; spokes = [] }
+abbrev pub bare_fan : Vertex → Fan
+bare_fan vertex = record { vertex = vertex; spokes = [] }
 
 -- the face is newer than that of each spoke: than that of the first
 abbrev pub IsNewest : ℕ → List Spoke → Type 0

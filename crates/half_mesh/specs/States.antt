@@ -6,7 +6,8 @@ use Rattle.grid_base.specs.declared.Point.{Point}
 use Rattle.mesh_base.specs.declared.ids.Corners.{Corners}
 use Rattle.mesh_base.specs.Mesh.{Mesh, IdSet, IsLiveVertex, IsLiveFace, HasCorners, AreLive, AreDifferent, equal_up_to_rotation}
 use Rattle.mesh_base.specs.Sides.{faces_at, has_corner}
-use Rattle.mesh_base.specs.Changes.{without_face, without_vertex}
+use Rattle.mesh_base.specs.Changes.{without_face, without_vertex, with_point}
+use Rattle.mesh_plain.specs.Numbered.{numbered}
 
 -- the points of the buried vertices, the corners of the buried faces, and
 -- the buried vertices that are solid
@@ -34,15 +35,15 @@ with_some to k (Some x) = map.insert to k x
 with_some to k None = to
 
 -- the second map, with what the first has at the key
-abbrev pub carried : {X : Type 0} → map.FinMap nat_cmp X → map.FinMap nat_cmp X → ℕ →
+abbrev pub carry : {X : Type 0} → map.FinMap nat_cmp X → map.FinMap nat_cmp X → ℕ →
     map.FinMap nat_cmp X
-carried from to k = with_some to k (map.get from k)
+carry from to k = with_some to k (map.get from k)
 
 -- a face goes from the live ones to the buried ones
 abbrev pub bury_face : State → ℕ → State
 bury_face s f = record {
   mesh = without_face s.mesh f;
-  buried = record s.buried { faces = carried s.mesh.faces s.buried.faces f };
+  buried = record s.buried { faces = carry s.mesh.faces s.buried.faces f };
 }
 
 -- a vertex goes from the live ones to the buried ones, with its mark as solid, if it has one
@@ -50,15 +51,15 @@ abbrev pub bury_vertex : State → ℕ → State
 bury_vertex s v = record {
   mesh = without_vertex s.mesh v;
   buried = record s.buried {
-    points = carried s.mesh.points s.buried.points v;
-    solid = carried s.mesh.solid s.buried.solid v;
+    points = carry s.mesh.points s.buried.points v;
+    solid = carry s.mesh.solid s.buried.solid v;
   };
 }
 
 -- a buried face is live again, with its old corners
 abbrev pub raise_face : State → ℕ → State
 raise_face s f = record {
-  mesh = record s.mesh { faces = carried s.buried.faces s.mesh.faces f };
+  mesh = record s.mesh { faces = carry s.buried.faces s.mesh.faces f };
   buried = record s.buried { faces = map.remove s.buried.faces f };
 }
 
@@ -66,8 +67,8 @@ raise_face s f = record {
 abbrev pub raise_vertex : State → ℕ → State
 raise_vertex s v = record {
   mesh = record s.mesh {
-    points = carried s.buried.points s.mesh.points v;
-    solid = carried s.buried.solid s.mesh.solid v;
+    points = carry s.buried.points s.mesh.points v;
+    solid = carry s.buried.solid s.mesh.solid v;
   };
   buried = record s.buried {
     points = map.remove s.buried.points v;
@@ -86,6 +87,18 @@ unmake_vertex s v = with_mesh s (record (without_vertex s.mesh v) { next_vertex 
 -- the vertex is solid no longer
 abbrev pub without_solid : Mesh → ℕ → Mesh
 without_solid m v = record m { solid = map.remove m.solid v }
+
+-- a live vertex stands at a point
+abbrev pub place_vertex : State → ℕ → Point → State
+place_vertex s v p = with_mesh s (with_point s.mesh v p)
+
+-- a live vertex is solid no longer
+abbrev pub unmake_solid : State → ℕ → State
+unmake_solid s v = with_mesh s (without_solid s.mesh v)
+
+-- the next vertex and the next face get these ids
+abbrev pub set_next : State → ℕ → ℕ → State
+set_next s next_vertex next_face = with_mesh s (numbered s.mesh next_vertex next_face)
 
 -- it is buried, one more may live, its corners live, and no live face equals it
 pub record CanRaiseFace (s : State) (f : ℕ) : Type 0 where

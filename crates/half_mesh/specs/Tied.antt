@@ -8,7 +8,7 @@ use Rattle.mesh_base.specs.Mesh.{Mesh}
 use Rattle.half_mesh.specs.Vertices.{vertices_in, points_in, solid_in}
 use Rattle.mesh_base.specs.Sides.{has_corner}
 use Rattle.half_mesh.specs.Fans.{Spoke, Fans, Side, Sides, Woven, side_at, spokes_at, put_spoke, without}
-use Rattle.half_mesh.specs.Mapped.{mapped}
+use Rattle.half_mesh.specs.Mapped.{map_values}
 use Rattle.id_table.specs.Stock.{Stock}
 use Rattle.half_mesh.specs.Ground.{Ground}
 use Rattle.half_mesh.specs.States.{Buried, Ledger}
@@ -43,7 +43,7 @@ FaceMap = finite.FinMap nat_cmp Corners
 
 -- the faces that the half-edges give, each by the key of its first side
 abbrev pub faces_in : Sides → Keys → FaceMap
-faces_in sides keys = mapped (corners_at sides) keys
+faces_in sides keys = map_values (corners_at sides) keys
 
 -- the mesh that fans and keys stand for, under limits
 abbrev pub woven_mesh : Woven → Keys → Limits → ℕ → ℕ → Mesh
@@ -91,17 +91,17 @@ pub record IsRing (sides : Sides) (f : ℕ) (c : Corners) (key : ℕ) : Type 0 w
       side_at sides third ≡ Some (record { origin = c.third; to = c.first; face = f; next = key })
 
 -- the corner that follows v
-abbrev pub following : Corners → ℕ → ℕ
-following c v = cond (c.first == v) c.second (cond (c.second == v) c.third c.first)
+abbrev pub next_corner : Corners → ℕ → ℕ
+next_corner c v = cond (c.first == v) c.second (cond (c.second == v) c.third c.first)
 
 -- the spoke of v in a face, if v is a corner
 abbrev pub spoke_in : ℕ → ℕ × Corners → List Spoke
-spoke_in v e = cond (has_corner e.1 v) (record { face = e.0; to = following e.1 v } ∷ []) []
+spoke_in v e = cond (has_corner e.1 v) (record { face = e.0; to = next_corner e.1 v } ∷ []) []
 
 -- the spokes of v in faces, the last face first
-abbrev pub falling : ℕ → List (ℕ × Corners) → List Spoke
-falling v [] = []
-falling v (e ∷ rest) = falling v rest ++ spoke_in v e
+abbrev pub falling_spokes : ℕ → List (ℕ × Corners) → List Spoke
+falling_spokes v [] = []
+falling_spokes v (e ∷ rest) = falling_spokes v rest ++ spoke_in v e
 
 -- at each key begins a ring of its face
 abbrev pub AreRings : Sides → Keys → Type 0
@@ -112,7 +112,7 @@ AreRings sides keys =
 pub record AreTied (woven : Woven) (keys : Keys) : Type 0 where
   pub rings : AreRings woven.sides keys
   pub spokes : (v : ℕ) →
-      spokes_at woven.fans v ≡ falling v (finite.entries (faces_in woven.sides keys))
+      spokes_at woven.fans v ≡ falling_spokes v (finite.entries (faces_in woven.sides keys))
 
 -- the same of the live faces, and each buried face is a ring of sides
 pub record AreKept (woven : Woven) (keys : Stock ℕ) : Type 0 where

@@ -8,21 +8,21 @@ use Rattle.slab.specs.Slab.{Slab, get, slab_len}
 use Rattle.half_mesh.specs.declared.halves.Half.{Half}
 use Rattle.half_mesh.specs.declared.row.Row.{Row}
 use Rattle.half_mesh.specs.Fans.{Spoke, Fan, Side, Woven}
-use Rattle.half_mesh.specs.Mapped.{mapped}
+use Rattle.half_mesh.specs.Mapped.{map_values}
 use Rattle.id_table.specs.Stock.{Stock}
 use Rattle.half_mesh.specs.Ground.{Ground}
 
 -- a half-edge, with its key
-abbrev pub Keyed : Type 0
-Keyed = ℕ × Half
+abbrev pub KeyedHalf : Type 0
+KeyedHalf = ℕ × Half
 
 -- so many half-edges from a key on, each linked to the next
-abbrev pub walk : Slab Half → ℕ → ℕ → List Keyed
+abbrev pub walk : Slab Half → ℕ → ℕ → List KeyedHalf
 walk s zero key = []
 walk s (suc n) key = elim (get s key) [ None ↦ [] | Some h ↦ (key, h) ∷ walk s n h.after ]
 
 -- a half-edge as its vertex keeps it: its face, and where it runs to
-abbrev pub spoke_of : Keyed → Spoke
+abbrev pub spoke_of : KeyedHalf → Spoke
 spoke_of e = record { face = e.1.face; to = e.1.to }
 
 -- what the row of a vertex stands for
@@ -36,7 +36,7 @@ side_of h = record { origin = h.origin; to = h.to; face = h.face; next = h.next 
 -- what the rows of vertices and the table of half-edges stand for
 abbrev pub woven_of : finite.FinMap nat_cmp Row → Slab Half → Woven
 woven_of rows s = record {
-  fans = mapped (fan_of s) rows;
+  fans = map_values (fan_of s) rows;
   sides = map (option_map side_of) s.slots;
   room = s.capacity - slab_len s;
 }
@@ -45,7 +45,7 @@ woven_of rows s = record {
 abbrev pub ground_of : Stock Row → Slab Half → Ground
 ground_of rows s = record {
   woven = woven_of rows.live s;
-  buried = mapped (λ row. row.vertex) rows.buried;
+  buried = map_values (λ row. row.vertex) rows.buried;
   seats = rows.room;
 }
 
@@ -56,7 +56,7 @@ cut f (s ∷ rest) = cond (s.face == f) rest (s ∷ cut f rest)
 
 -- from the key on, these half-edges are linked one to the next; they leave v, and
 -- their faces fall from below a bound
-abbrev pub IsChain : Slab Half → ℕ → ℕ → ℕ → List Keyed → Type 0
+abbrev pub IsChain : Slab Half → ℕ → ℕ → ℕ → List KeyedHalf → Type 0
 IsChain s v bound key [] = Unit {0}
 IsChain s v bound key (e ∷ rest) =
     (e.0 ≡ key) × (get s e.0 ≡ Some e.1) × (e.1.origin ≡ v) × (e.1.face < bound)
@@ -64,7 +64,7 @@ IsChain s v bound key (e ∷ rest) =
 
 -- the row of v counts half-edges that are linked
 pub record IsFanned (s : Slab Half) (v : ℕ) (row : Row) : Type 0 where
-  pub halves : List Keyed
+  pub halves : List KeyedHalf
   pub chain : IsChain s v (2 ^ 32) row.first halves
   pub count : length halves ≡ row.count
 
@@ -73,12 +73,12 @@ abbrev pub AreFanned : finite.FinMap nat_cmp Row → Slab Half → Type 0
 AreFanned rows s = (v : ℕ) (row : Row) → finite.get rows v ≡ Some row → IsFanned s v row
 
 -- the half-edge before the first of the face, after e
-abbrev pub key_before : ℕ → Keyed → List Keyed → Option Keyed
+abbrev pub key_before : ℕ → KeyedHalf → List KeyedHalf → Option KeyedHalf
 key_before f e [] = None
 key_before f e (x ∷ rest) = cond (x.1.face == f) (Some e) (key_before f x rest)
 
 -- the slab with the link of p past the half-edge after it, which is gone
-pub record IsLinkedPast (s t : Slab Half) (p : Keyed) (gone : Half) : Type 0 where
+pub record IsLinkedPast (s t : Slab Half) (p : KeyedHalf) (gone : Half) : Type 0 where
   pub there : get s p.1.after ≡ Some gone
   pub linked : get t p.0 ≡ Some (record p.1 { after = gone.after })
   pub others : (k : ℕ) → k ≢ p.0 → k ≢ p.1.after → get t k ≡ get s k
@@ -89,13 +89,13 @@ pub record Resets (s t : Slab Half) (key after : ℕ) : Type 0 where
   pub others : (k : ℕ) → k ≢ key → get t k ≡ get s k
 
 -- the last of them, from e on, whose face is newer
-abbrev pub last_newer : ℕ → Keyed → List Keyed → Keyed
+abbrev pub last_newer : ℕ → KeyedHalf → List KeyedHalf → KeyedHalf
 last_newer f e [] = e
 last_newer f e (x ∷ rest) = cond (nat_lt f x.1.face) (last_newer f x rest) e
 
 -- the half-edge h at the key is put among so many that are linked from a key on: alone,
 -- first, or after the last newer one
-pub record IsPutAfter (s t : Slab Half) (p : Keyed) (k : ℕ) (g : Half) : Type 0 where
+pub record IsPutAfter (s t : Slab Half) (p : KeyedHalf) (k : ℕ) (g : Half) : Type 0 where
   pub held : get s k ≡ Some g
   pub linked : get t p.0 ≡ Some (record p.1 { after = k })
   pub placed : get t k ≡ Some (record g { after = p.1.after })

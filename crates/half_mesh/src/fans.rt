@@ -3,7 +3,7 @@ ghost use Rattle.std.specs.Prelude.{◌≡◌, ◌≢◌, None, ◌≤◌, ◌<�
 ghost use Rattle.std.specs.Option.{option_map};
 ghost use Rattle.std.specs.FinMap as map;
 ghost use Rattle.mesh_base.specs.Sides.{above};
-ghost use Rattle.half_mesh.specs.Fans.{Fan, Side, side_at, with_spoke, without_spoke, put_spoke, spokes_at, spokes_to, faces_of, bare, IsNewest, IsOutside, CanRelink};
+ghost use Rattle.half_mesh.specs.Fans.{Fan, Side, side_at, with_spoke, without_spoke, put_spoke, spokes_at, spokes_to, faces_of, bare_fan, IsNewest, IsOutside, CanRelink};
 ghost use Rattle.half_mesh.specs.FanChanges.{with_fans, with_side, ChangesFan, KeepsRest, KeepsSides, KeepsOtherSides, KeepsSidesOutside};
 ghost use Rattle.half_mesh.specs.Walks.{walk, spoke_of, side_of, key_before, last_newer, IsLinkedIn, Joins, Resets};
 ghost use Rattle.slab.specs.Slab.{get, slab_len};
@@ -90,7 +90,7 @@ impl Fans {
     pub(crate) fn add(&mut self, v: u32, vertex: Vertex) -> Result<(), NoMemory>
         requires new { map.get self.old.woven.fans v ≡ None }
         requires few { map.len self.old.woven.fans < 2 ^ 32 }
-        ensures ok { let fans = map.insert self.old.woven.fans v (bare vertex) in
+        ensures ok { let fans = map.insert self.old.woven.fans v (bare_fan vertex) in
             OnOk result (self.new ≡ record (with_fans self.old fans) { seats = self.new.seats }) }
         ensures err { OnErr result (self.new ≡ self.old) }
         ensures memory { OnErr result (self.old.seats ≡ 0) }
@@ -201,7 +201,7 @@ impl Fans {
         requires new { map.get self.old.woven.fans v ≡ None }
         requires few { map.len self.old.woven.fans < 2 ^ 32 }
         ensures { (vertex : Vertex) → map.get self.old.buried v ≡ Some vertex →
-            let raised = with_fans self.old (map.insert self.old.woven.fans v (bare vertex)) in
+            let raised = with_fans self.old (map.insert self.old.woven.fans v (bare_fan vertex)) in
             self.new ≡ record raised { buried = map.remove self.old.buried v } }
     {
         if let Some(row) = self.rows.get_buried(v) {

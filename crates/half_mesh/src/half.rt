@@ -22,19 +22,19 @@ pub struct HalfMesh {
 }
 
 impl HalfMesh {
-    ghost use Rattle.mesh_plain.specs.Shape.{shape_fault};
-    ghost use Rattle.mesh_base.specs.Given.{mesh_under};
-    ghost use Rattle.mesh_plain.specs.Numbered.{MayBeNext, numbered};
+    ghost use Rattle.mesh_plain.specs.Shape.{HaveGoodShape};
+    ghost use Rattle.mesh_base.specs.Given.{listed_mesh};
+    ghost use Rattle.mesh_plain.specs.Numbered.{MayBeNext, numbered_mesh};
     ghost use Rattle.mesh_base.specs.Mesh.{IsLiveFace};
-    ghost use Rattle.half_mesh.specs.Across.{across};
+    ghost use Rattle.half_mesh.specs.Across.{across, LeadsBack};
     ghost use Rattle.half_mesh.specs.Half.{mesh_in, kept_in, state_in};
     ghost use Rattle.half_mesh.specs.States.{none_buried};
-    ghost use Rattle.std.specs.Prelude.{ℕ, ◌<◌, Some, None, [], IfOk, length};
+    ghost use Rattle.std.specs.Prelude.{◌<◌, [], IfOk, length};
 
     /// The mesh that lists of good shape give, with the limits of a scale and with nothing kept.
     pub fn of(alloc: Global, scale: Scale, lists: &MeshLists) -> Result<HalfMesh, NoMemory>
-        requires { shape_fault scale (length lists.now.points) lists.now.faces ≡ None }
-        ensures mesh { IfOk result (λ s. mesh_in s ≡ mesh_under scale lists.now.points lists.now.faces) }
+        requires { HaveGoodShape scale lists.now }
+        ensures mesh { IfOk result (λ s. mesh_in s ≡ listed_mesh scale lists.now) }
         ensures buried { IfOk result (λ s. (state_in s).buried ≡ none_buried) }
         ensures kept { IfOk result (λ s. kept_in s ≡ []) }
     {
@@ -54,12 +54,11 @@ impl HalfMesh {
         next_vertex: u32,
         next_face: u32,
     ) -> Result<HalfMesh, NoMemory>
-        requires shape { shape_fault scale (length lists.now.points) lists.now.faces ≡ None }
+        requires shape { HaveGoodShape scale lists.now }
         requires vertex { MayBeNext (length lists.now.points) next_vertex }
         requires face { MayBeNext (length lists.now.faces) next_face }
         ensures mesh { IfOk result
-            (λ s. mesh_in s ≡ numbered
-            (mesh_under scale lists.now.points lists.now.faces) next_vertex next_face) }
+            (λ s. mesh_in s ≡ numbered_mesh scale lists.now next_vertex next_face) }
         ensures buried { IfOk result (λ s. (state_in s).buried ≡ none_buried) }
         ensures kept { IfOk result (λ s. kept_in s ≡ []) }
     {
@@ -78,8 +77,7 @@ impl HalfMesh {
         requires live { IsLiveFace (mesh_in self.now) f }
         requires side { side < 3 }
         ensures value { result ≡ across (mesh_in self.entry.now) f side }
-        ensures back { (g turn : ℕ) → result ≡ Some (g, turn) →
-            across (mesh_in self.entry.now) g turn ≡ Some (f, side) }
+        ensures back { LeadsBack (mesh_in self.entry.now) f side result }
     {
         self.now.across(f, side)
     }
@@ -91,11 +89,9 @@ impl HalfMesh {
     ghost use Rattle.std.specs.Prelude.{[], OnOk};
     ghost use Rattle.mesh_base.specs.Mesh.{IsLiveVertex, IsLiveFace};
     ghost use Rattle.mesh_base.specs.Sides.{faces_at};
-    ghost use Rattle.mesh_base.specs.Changes.{with_point};
-    ghost use Rattle.mesh_plain.specs.Numbered.{numbered};
     ghost use Rattle.grid_base.specs.declared.TheConstants.{ID_MAX};
     ghost use Rattle.half_mesh.specs.Half.{mesh_in, kept_in, state_in, spare_in};
-    ghost use Rattle.half_mesh.specs.States.{none_buried, with_mesh, without_solid, bury_face, bury_vertex, raise_face, raise_vertex, unmake_face, unmake_vertex, CanRaiseFace, CanRaiseVertex, CanUnmakeFace, CanUnmakeVertex};
+    ghost use Rattle.half_mesh.specs.States.{none_buried, bury_face, bury_vertex, raise_face, raise_vertex, unmake_face, unmake_vertex, place_vertex, unmake_solid, set_next, CanRaiseFace, CanRaiseVertex, CanUnmakeFace, CanUnmakeVertex};
 
     /// Buries a live face: it is live no longer, and its half-edges stay.
     pub fn bury_face(&mut self, f: FaceId)
@@ -161,8 +157,7 @@ impl HalfMesh {
     /// Puts a live vertex at a point.
     pub fn place_now(&mut self, v: VertexId, p: Point)
         requires { IsLiveVertex (mesh_in self.old) v }
-        ensures state { state_in self.new ≡ with_mesh (state_in self.old)
-            (with_point (mesh_in self.old) v p) }
+        ensures state { state_in self.new ≡ place_vertex (state_in self.old) v p }
         ensures kept { kept_in self.new ≡ kept_in self.old }
         ensures spare { spare_in self.old ≤ spare_in self.new }
     {
@@ -172,8 +167,7 @@ impl HalfMesh {
     /// Takes the mark as solid of a live vertex away, if it has one.
     pub fn unmake_solid(&mut self, v: VertexId)
         requires { IsLiveVertex (mesh_in self.old) v }
-        ensures state { state_in self.new ≡ with_mesh (state_in self.old)
-            (without_solid (mesh_in self.old) v) }
+        ensures state { state_in self.new ≡ unmake_solid (state_in self.old) v }
         ensures kept { kept_in self.new ≡ kept_in self.old }
         ensures spare { spare_in self.old ≤ spare_in self.new }
     {
@@ -197,8 +191,7 @@ impl HalfMesh {
         requires face { (mesh_in self.old).next_face ≤ next_face }
         requires vertex_made { next_vertex ≤ (ID_MAX + 1) }
         requires face_made { next_face ≤ (ID_MAX + 1) }
-        ensures state { state_in self.new ≡ with_mesh (state_in self.old)
-            (numbered (mesh_in self.old) next_vertex next_face) }
+        ensures state { state_in self.new ≡ set_next (state_in self.old) next_vertex next_face }
         ensures kept { kept_in self.new ≡ kept_in self.old }
         ensures spare { spare_in self.old ≤ spare_in self.new }
     {

@@ -3,14 +3,14 @@
 use grid_base::Point;
 
 /// A vertex: where it stands, and whether it is solid.
-#[derive(Clone, Copy, Debug, PartialEq, Eq)]
+#[derive(Clone, Copy)]
 pub(crate) struct Vertex {
     pub(crate) point: Point,
     pub(crate) solid: bool,
 }
 
 /// A vertex, with the first of so many half-edges that leave it.
-#[derive(Clone, Copy, Debug, PartialEq, Eq)]
+#[derive(Clone, Copy)]
 pub(crate) struct Row {
     pub(crate) vertex: Vertex,
     pub(crate) first: usize,

@@ -1,14 +1,14 @@
 //! The tables of one mesh.
 ghost use Rattle.grid_base.specs.declared.TheConstants.{VERTICES_MAX, FACES_MAX};
-ghost use Rattle.std.specs.Prelude.{ℕ, length, ◌≤◌, ◌≡◌, ◌<◌, ◌+◌, ◌^◌, IfOk, OnOk, OnErr, slice_get, [], None};
+ghost use Rattle.std.specs.Prelude.{ℕ, length, ◌≤◌, ◌≡◌, ◌<◌, ◌+◌, ◌^◌, IfOk, OnOk, OnErr, slice_get, []};
 ghost use Rattle.std.specs.Option.{option_map};
 ghost use Rattle.std.specs.FinMap as map;
 ghost use Rattle.mesh_base.specs.Mesh.{IsSound, IsLiveVertex, IsLiveFace, AreLive, AreDifferent, is_solid};
 ghost use Rattle.mesh_base.specs.Changes.{corner_list, with_vertex, with_face, without_face, without_vertex, with_point, with_solid};
 ghost use Rattle.mesh_base.specs.Sides.{above, faces_at, faces_running, runs};
-ghost use Rattle.mesh_base.specs.Given.{mesh_under};
+ghost use Rattle.mesh_base.specs.Given.{mesh_under, listed_mesh};
 ghost use Rattle.mesh_plain.specs.Numbered.{numbered};
-ghost use Rattle.mesh_plain.specs.Shape.{shape_fault};
+ghost use Rattle.mesh_plain.specs.Shape.{HaveGoodShape};
 ghost use Rattle.half_mesh.specs.Fans.{spokes_at, IsNewest};
 ghost use Rattle.half_mesh.specs.States.{AreApart, none_buried, with_mesh};
 ghost use Rattle.half_mesh.specs.Across.{corner_at, corner_after, side_from, below, across, across_side};
@@ -91,7 +91,7 @@ impl Tables {
 
     /// Puts the points of lists into tables that have nothing, numbered from 1.
     fn add_points(&mut self, scale: Scale, lists: &MeshLists) -> Result<(), NoMemory>
-        requires fit { shape_fault scale (length lists.now.points) lists.now.faces ≡ None }
+        requires fit { HaveGoodShape scale lists.now }
         requires nothing { self.old.state ≡ record { mesh = mesh_under scale [] []; buried = none_buried } }
         ensures { OnOk result (self.new.state
             ≡ record { mesh = mesh_under scale lists.now.points []; buried = none_buried }) }
@@ -104,11 +104,11 @@ impl Tables {
 
     /// Puts the faces of lists into tables that have their points alone, numbered from 1.
     fn add_faces(&mut self, scale: Scale, lists: &MeshLists) -> Result<(), NoMemory>
-        requires fit { shape_fault scale (length lists.now.points) lists.now.faces ≡ None }
+        requires fit { HaveGoodShape scale lists.now }
         requires points { self.old.state
             ≡ record { mesh = mesh_under scale lists.now.points []; buried = none_buried } }
         ensures { OnOk result (self.new.state
-            ≡ record { mesh = mesh_under scale lists.now.points lists.now.faces; buried = none_buried }) }
+            ≡ record { mesh = listed_mesh scale lists.now; buried = none_buried }) }
     {
         for f in lists.faces.as_slice() {
             self.add_face(VertexId(f[0]), VertexId(f[1]), VertexId(f[2]))?;
@@ -130,10 +130,10 @@ impl Tables {
 
     /// The tables of lists, numbered from 1, with the limits of a scale.
     pub(crate) fn of(alloc: Global, scale: Scale, lists: &MeshLists) -> Result<Tables, NoMemory>
-        requires { shape_fault scale (length lists.now.points) lists.now.faces ≡ None }
+        requires { HaveGoodShape scale lists.now }
         ensures { IfOk result
             (λ t. t.state ≡
-            record { mesh = mesh_under scale lists.now.points lists.now.faces; buried = none_buried }) }
+            record { mesh = listed_mesh scale lists.now; buried = none_buried }) }
     {
         let mut tables = Tables::new(alloc, scale);
         tables.reserve_for(lists)?;

@@ -272,7 +272,7 @@ fn find<T: Copy>(hints: &Hints, items: &[Item<T>], id: u32) -> Result<usize, usi
             return Ok(front);
         }
     }
-    sought(hints, items, id)
+    look_up(hints, items, id)
 }
 
 /// How far an id is from the first.
@@ -286,7 +286,7 @@ fn after_first<T: Copy>(items: &[Item<T>], id: u32) -> usize {
 
 /// The place of an id, or else where it belongs, where it is not at the very place.
 #[inline(never)]
-fn sought<T: Copy>(hints: &Hints, items: &[Item<T>], id: u32) -> Result<usize, usize>
+fn look_up<T: Copy>(hints: &Hints, items: &[Item<T>], id: u32) -> Result<usize, usize>
     requires { RiseFrom 0 items.now }
     ensures { IsFound items.now id result }
 {
@@ -325,12 +325,12 @@ fn guess<T: Copy>(hints: &Hints, items: &[Item<T>], id: u64) -> usize {
     if items[back].id as u64 == id {
         return back;
     }
-    let between = spread(items[0].id as u64, items[last].id as u64, last as u64, id);
+    let between = even_place(items[0].id as u64, items[last].id as u64, last as u64, id);
     between.min(front as u64).max(back as u64) as usize
 }
 
 /// Where a number belongs if the ids rise evenly from the first to the last.
-fn spread(first: u64, end: u64, last: u64, id: u64) -> u64 {
+fn even_place(first: u64, end: u64, last: u64, id: u64) -> u64 {
     let span = end.saturating_sub(first).max(1);
     let after = id.saturating_sub(first).min(span);
     after.saturating_mul(last) / span
@@ -474,7 +474,7 @@ fn around<T: Copy>(items: &[Item<T>], at: usize, id: u64) -> (usize, usize)
 }
 
 /// The next step, twice as long.
-fn grown(step: usize) -> usize
+fn next_step(step: usize) -> usize
     requires { 0 < step }
     ensures { 0 < result }
 {
@@ -495,7 +495,7 @@ fn upward<T: Copy>(items: &[Item<T>], id: u64, at: usize) -> (usize, usize)
             return (low + 1, low + step);
         }
         low += step;
-        step = grown(step);
+        step = next_step(step);
     }
     (low + 1, items.len())
 }
@@ -514,7 +514,7 @@ fn downward<T: Copy>(items: &[Item<T>], id: u64, at: usize) -> (usize, usize)
             return (high - step + 1, high);
         }
         high -= step;
-        step = grown(step);
+        step = next_step(step);
     }
     (0, high)
 }

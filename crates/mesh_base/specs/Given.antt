@@ -4,9 +4,10 @@ use Rattle.std.specs.List.{enumerate_from}
 use Rattle.std.specs.FinMap as finite
 use Rattle.grid_base.specs.declared.Point.{Point}
 use Rattle.mesh_base.specs.Mesh.{Mesh}
+use Rattle.mesh_base.specs.declared.lists.MeshLists.{MeshLists}
 use Rattle.mesh_base.specs.declared.limits.Scale.{Scale}
 use Rattle.mesh_base.specs.declared.limits.Scale.TheVariants.{Standard}
-use Rattle.mesh_base.specs.Limits.{standard, limits_of}
+use Rattle.mesh_base.specs.Limits.{standard_limits, limits_of}
 use Rattle.mesh_base.specs.Changes.{corners_of}
 
 -- faces, each by the numbers of its three corners
@@ -21,7 +22,7 @@ empty_mesh = record {
   solid = finite.empty;
   next_vertex = 1;
   next_face = 1;
-  limits = standard;
+  limits = standard_limits;
 }
 
 -- the points and the faces, numbered from 1, with the limits of a scale
@@ -38,3 +39,7 @@ mesh_under scale points faces = record {
 -- the same, with standard limits
 abbrev pub mesh_of : List Point → Faces → Mesh
 mesh_of points faces = mesh_under Standard points faces
+
+-- the mesh that lists give, with the limits of a scale
+abbrev pub listed_mesh : Scale → MeshLists → Mesh
+listed_mesh scale lists = mesh_under scale lists.points lists.faces

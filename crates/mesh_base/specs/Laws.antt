@@ -5,8 +5,8 @@ use Rattle.grid_base.specs.Triples.{Triple, plus}
 use Rattle.grid_base.specs.Points.{displacement_of}
 use Rattle.mesh_base.specs.declared.steps.ShiftOf.{ShiftOf}
 use Rattle.mesh_base.specs.Mesh.{Mesh, IsSound, IsLiveVertex}
-use Rattle.mesh_base.specs.Sides.{IsEdge}
-use Rattle.mesh_base.specs.Pairs.{edges}
+use Rattle.mesh_base.specs.Sides.{IsClosed, IsEdge}
+use Rattle.mesh_base.specs.Pairs.{Pair, IsPair, edges}
 use Rattle.mesh_base.specs.Placements.{origin, rest_positions, IsClearMesh, IsClearAlong}
 use Rattle.mesh_base.specs.Shifts.{Shifts, shift_at, moved_by, end_in_box, with_moves, NameOnce}
 
@@ -24,6 +24,36 @@ MovesAddShifts = (m : Mesh) (moves : Shifts) → NameOnce m moves → IsTrue (en
 abbrev pub MovesKeepLive : Type 0
 MovesKeepLive = (m : Mesh) (moves : Shifts) → NameOnce m moves → (v : ℕ) →
     (IsLiveVertex (with_moves m moves) v ↔ IsLiveVertex m v)
+
+-- the faces are the same
+abbrev pub MovesKeepFaces : Type 0
+MovesKeepFaces = (m : Mesh) (moves : Shifts) → (with_moves m moves).faces ≡ m.faces
+
+-- the next vertex gets the same id
+abbrev pub MovesKeepNextVertex : Type 0
+MovesKeepNextVertex = (m : Mesh) (moves : Shifts) → (with_moves m moves).next_vertex ≡ m.next_vertex
+
+-- the next face gets the same id
+abbrev pub MovesKeepNextFace : Type 0
+MovesKeepNextFace = (m : Mesh) (moves : Shifts) → (with_moves m moves).next_face ≡ m.next_face
+
+-- the limits are the same
+abbrev pub MovesKeepLimits : Type 0
+MovesKeepLimits = (m : Mesh) (moves : Shifts) → (with_moves m moves).limits ≡ m.limits
+
+-- the laws of a mesh hold
+abbrev pub MovesKeepSound : Type 0
+MovesKeepSound =
+    (m : Mesh) (moves : Shifts) → IsSound m → NameOnce m moves → IsSound (with_moves m moves)
+
+-- a closed mesh is closed
+abbrev pub MovesKeepClosed : Type 0
+MovesKeepClosed = (m : Mesh) (moves : Shifts) → IsClosed m → IsClosed (with_moves m moves)
+
+-- it has the same pairs
+abbrev pub MovesKeepPairs : Type 0
+MovesKeepPairs =
+    (m : Mesh) (moves : Shifts) (p : Pair) → (IsPair (with_moves m moves) p ↔ IsPair m p)
 
 -- moves that are left name each vertex once
 abbrev pub LeftNameOnce : Type 0

@@ -9,17 +9,17 @@ use Rattle.mesh_base.specs.declared.limits.Scale.TheVariants.{Standard, Large}
 use Rattle.mesh_base.specs.Mesh.{Mesh}
 
 -- those of a mesh whose maker asks for no large ones
-abbrev pub standard : Limits
-standard = record { vertices = STANDARD_VERTICES; faces = STANDARD_FACES }
+abbrev pub standard_limits : Limits
+standard_limits = record { vertices = STANDARD_VERTICES; faces = STANDARD_FACES }
 
 -- the greatest that there are
-abbrev pub large : Limits
-large = record { vertices = VERTICES_MAX; faces = FACES_MAX }
+abbrev pub large_limits : Limits
+large_limits = record { vertices = VERTICES_MAX; faces = FACES_MAX }
 
 -- the limits of the meshes of a job
 abbrev pub limits_of : Scale → Limits
-limits_of Standard = standard
-limits_of Large = large
+limits_of Standard = standard_limits
+limits_of Large = large_limits
 
 -- the greatest length of the texts of a job
 abbrev pub text_most : Scale → ℕ

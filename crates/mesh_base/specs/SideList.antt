@@ -46,6 +46,10 @@ neighbours_in_any m faces u v = list_any (λ f. neighbours_at m f u v) faces
 abbrev pub HasSides : List (ℕ × ℕ) → (ℕ → ℕ → Bool) → Type 0
 HasSides sides named = (u v : ℕ) → has_side sides u v ≡ (nat_lt u v && named u v)
 
+-- the list has the sides of these faces of a mesh, the smaller end first
+abbrev pub HasSidesOf : Mesh → List ℕ → List (ℕ × ℕ) → Type 0
+HasSidesOf m faces sides = HasSides sides (neighbours_in_any m faces)
+
 -- the list has what it had before, and those besides
 abbrev pub AddsSides : List (ℕ × ℕ) → List (ℕ × ℕ) → (ℕ → ℕ → Bool) → Type 0
 AddsSides old new named =

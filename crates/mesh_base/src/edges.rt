@@ -7,7 +7,7 @@ ghost use Rattle.mesh_base.specs.Mesh.{AreDifferent};
 ghost use Rattle.mesh_base.specs.Sides.{above};
 ghost use Rattle.mesh_base.specs.Pairs.{edges, is_edge};
 ghost use Rattle.mesh_base.specs.SideList.{edge_cmp, has_side, are_neighbours, neighbours_at, neighbours_in_any};
-ghost use Rattle.mesh_base.specs.SideList.{side_rank, HasSmallEnds, HasSides, AddsSides};
+ghost use Rattle.mesh_base.specs.SideList.{side_rank, HasSmallEnds, HasSides, HasSidesOf, AddsSides};
 
 use crate::ids::{Corners, FaceId, VertexId};
 use crate::lists::Edges;
@@ -56,8 +56,7 @@ fn put_face<S: Surface>(sides: &mut Sides, mesh: &S, f: FaceId) -> Result<(), No
 
 /// The sides of faces.
 fn sides_of<S: Surface>(alloc: Global, mesh: &S, faces: &[FaceId]) -> Result<Sides, NoMemory>
-    ensures { IfOk result
-        (λ sides. HasSides sides.items (neighbours_in_any (S.mesh mesh.now) faces.now)) }
+    ensures { IfOk result (λ sides. HasSidesOf (S.mesh mesh.now) faces.now sides.items) }
 {
     // Room for all of them is taken at once: 24 bytes a face. A list that doubles as it grows takes up to twice that,
     // and copies on the way.
@@ -94,8 +93,7 @@ pub fn sides_in_order<S: Surface>(
     faces: &[FaceId],
 ) -> Result<Edges, NoMemory>
     ensures order { IfOk result (λ found. IsStrictlySortedBy edge_cmp found) }
-    ensures sides { IfOk result
-        (λ found. HasSides found (neighbours_in_any (S.mesh mesh.now) faces.now)) }
+    ensures sides { IfOk result (λ found. HasSidesOf (S.mesh mesh.now) faces.now found) }
 {
     let mut sides = sides_of(alloc, mesh, faces)?;
     put_in_order(&mut sides);

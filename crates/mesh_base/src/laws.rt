@@ -1,14 +1,16 @@
 //! Laws of meshes, their pairs and their motions. Each is the contract of a function that does nothing.
 
-ghost use Rattle.std.specs.Prelude.{ℕ, ◌≡◌, ◌↔◌, map};
+ghost use Rattle.std.specs.Prelude.{◌↔◌, map};
 ghost use Rattle.std.specs.List.{Contains};
 ghost use Rattle.std.specs.List.Sorted.{IsStrictlySortedBy};
 ghost use Rattle.mesh_base.specs.Mesh.{Mesh, IsSound};
-ghost use Rattle.mesh_base.specs.Sides.{IsClosed};
 ghost use Rattle.mesh_base.specs.Pairs.{Pair, IsPair, edges, pairs, name_cmp};
 ghost use Rattle.mesh_base.specs.SideList.{edge_cmp};
-ghost use Rattle.mesh_base.specs.Shifts.{Shifts, with_moves, NameLive, NameOnce};
-ghost use Rattle.mesh_base.specs.Laws.{EdgesAreListed, MovesAddShifts, MovesKeepLive, LeftNameOnce, LeftShiftAlike, LeftEndInBox, ClearMotionLeavesClear, TranslationIsClearAlong, TranslationLeavesClear};
+ghost use Rattle.mesh_base.specs.Shifts.{Shifts, NameLive, NameOnce};
+ghost use Rattle.mesh_base.specs.Laws.{EdgesAreListed, MovesAddShifts, MovesKeepLive, MovesKeepFaces, MovesKeepNextVertex, MovesKeepNextFace};
+ghost use Rattle.mesh_base.specs.Laws.{MovesKeepLimits, MovesKeepSound, MovesKeepClosed, MovesKeepPairs, LeftNameOnce};
+ghost use Rattle.mesh_base.specs.Laws.{LeftShiftAlike, LeftEndInBox, ClearMotionLeavesClear};
+ghost use Rattle.mesh_base.specs.Laws.{TranslationIsClearAlong, TranslationLeavesClear};
 
 /// The list of edges has exactly the edges, the smaller id first; the list of pairs has exactly the pairs. Both are in order
 /// and have nothing twice: edges by the smaller id and then by the larger, pairs by the edge and then by the face.
@@ -24,16 +26,13 @@ pub fn pairs_are_listed()
 pub fn moves_keep_the_mesh()
     ensures places { MovesAddShifts }
     ensures live { MovesKeepLive }
-    ensures faces { (m : Mesh) (moves : Shifts) → (with_moves m moves).faces ≡ m.faces }
-    ensures next_vertex { (m : Mesh) (moves : Shifts) →
-        (with_moves m moves).next_vertex ≡ m.next_vertex }
-    ensures next_face { (m : Mesh) (moves : Shifts) → (with_moves m moves).next_face ≡ m.next_face }
-    ensures limits { (m : Mesh) (moves : Shifts) → (with_moves m moves).limits ≡ m.limits }
-    ensures sound { (m : Mesh) (moves : Shifts) →
-        IsSound m → NameOnce m moves → IsSound (with_moves m moves) }
-    ensures closed { (m : Mesh) (moves : Shifts) → IsClosed m → IsClosed (with_moves m moves) }
-    ensures pairs { (m : Mesh) (moves : Shifts) →
-        (p : Pair) → (IsPair (with_moves m moves) p ↔ IsPair m p) }
+    ensures faces { MovesKeepFaces }
+    ensures next_vertex { MovesKeepNextVertex }
+    ensures next_face { MovesKeepNextFace }
+    ensures limits { MovesKeepLimits }
+    ensures sound { MovesKeepSound }
+    ensures closed { MovesKeepClosed }
+    ensures pairs { MovesKeepPairs }
 {}
 
 /// Shifts of the live vertices, by rising id, name each once. Where some that shift nothing are left out, each vertex has

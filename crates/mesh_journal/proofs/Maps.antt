@@ -5,10 +5,10 @@ use Rattle.std.specs.Cmp.{nat_cmp_total, eq_by_cmp_equiv}
 use Rattle.std.specs.FinMap as map
 use Rattle.std.specs.FinMap.{FinMap, nat_cmp-IsAntisymmetric, same_map, get-insert, get-remove, len-insert}
 use Rattle.mesh_base.proofs.Finite.{live_after_insert}
-use Rattle.half_mesh.specs.States.{with_some, carried}
+use Rattle.half_mesh.specs.States.{with_some, carry}
 use Rattle.half_mesh.proofs.Mapped.{tied}
 use Rattle.half_mesh.proofs.Rings.{got_some}
-use Rattle.half_mesh.proofs.StateLaws.{carried-some}
+use Rattle.half_mesh.proofs.StateLaws.{carry-some}
 
 module _ {X : Type 0} where
   pub get_here : (m : FinMap nat_cmp X) (k : ℕ) (x : X) → map.get (map.insert m k x) k ≡ Some x
@@ -39,15 +39,15 @@ module _ {X : Type 0} where
       ] refl)
 
   -- what was carried over is there
-  pub get_carried : (from to : FinMap nat_cmp X) (k : ℕ) (x : X) → map.get from k ≡ Some x → map.get (carried from to k) k ≡ Some x
-  get_carried from to k x h = ap (λ m. map.get m k) (carried-some from to k x h) ∙ get_here to k x
+  pub get_carried : (from to : FinMap nat_cmp X) (k : ℕ) (x : X) → map.get from k ≡ Some x → map.get (carry from to k) k ≡ Some x
+  get_carried from to k x h = ap (λ m. map.get m k) (carry-some from to k x h) ∙ get_here to k x
 
   -- what was carried over and back is where it was
-  pub carried_back : (from to : FinMap nat_cmp X) (k : ℕ) (x : X) → map.get from k ≡ Some x → carried (carried from to k) (map.remove from k) k ≡ from
-  carried_back from to k x h = carried-some (carried from to k) (map.remove from k) k x (get_carried from to k x h) ∙ removed_back from k x h
+  pub carried_back : (from to : FinMap nat_cmp X) (k : ℕ) (x : X) → map.get from k ≡ Some x → carry (carry from to k) (map.remove from k) k ≡ from
+  carried_back from to k x h = carry-some (carry from to k) (map.remove from k) k x (get_carried from to k x h) ∙ removed_back from k x h
 
-  pub carried_away : (from to : FinMap nat_cmp X) (k : ℕ) (x : X) → map.get from k ≡ Some x → map.get to k ≡ None → map.remove (carried from to k) k ≡ to
-  carried_away from to k x h none = ap (λ m. map.remove m k) (carried-some from to k x h) ∙ inserted_back to k x none
+  pub carried_away : (from to : FinMap nat_cmp X) (k : ℕ) (x : X) → map.get from k ≡ Some x → map.get to k ≡ None → map.remove (carry from to k) k ≡ to
+  carried_away from to k x h none = ap (λ m. map.remove m k) (carry-some from to k x h) ∙ inserted_back to k x none
 
   -- a removal of what is not there
   pub removed_none : (m : FinMap nat_cmp X) (k : ℕ) → map.get m k ≡ None → map.remove m k ≡ m
@@ -67,27 +67,27 @@ module _ {X : Type 0} where
         | false ↦ λ e. refl
       ] refl)
 
-  carried_none : (from to : FinMap nat_cmp X) (k : ℕ) → map.get from k ≡ None → carried from to k ≡ to
+  carried_none : (from to : FinMap nat_cmp X) (k : ℕ) → map.get from k ≡ None → carry from to k ≡ to
   carried_none from to k h = ap (with_some to k) h
 
   -- the same where nothing was there to be carried
   pub carried_any-back : (from to : FinMap nat_cmp X) (k : ℕ) (o : Option X) → map.get from k ≡ o → map.get to k ≡ None
-      → carried (carried from to k) (map.remove from k) k ≡ from
+      → carry (carry from to k) (map.remove from k) k ≡ from
   carried_any-back from to k (Some x) h none = carried_back from to k x h
   carried_any-back from to k None h none =
-      ap (λ t. carried t (map.remove from k) k) (carried_none from to k h)
+      ap (λ t. carry t (map.remove from k) k) (carried_none from to k h)
       ∙ carried_none to (map.remove from k) k none
       ∙ removed_none from k h
 
   pub carried_any-away : (from to : FinMap nat_cmp X) (k : ℕ) (o : Option X) → map.get from k ≡ o → map.get to k ≡ None
-      → map.remove (carried from to k) k ≡ to
+      → map.remove (carry from to k) k ≡ to
   carried_any-away from to k (Some x) h none = carried_away from to k x h none
   carried_any-away from to k None h none = ap (λ t. map.remove t k) (carried_none from to k h) ∙ removed_none to k none
 
   -- what is there after a carrying was there, or is at its key
-  pub some_carried : (from to : FinMap nat_cmp X) (k q : ℕ) (o : Option X) → map.get from k ≡ o → IsSome (map.get (carried from to k) q)
+  pub some_carried : (from to : FinMap nat_cmp X) (k q : ℕ) (o : Option X) → map.get from k ≡ o → IsSome (map.get (carry from to k) q)
       → (q ≡ k) ⊎ IsSome (map.get to q)
-  some_carried from to k q (Some x) h there = live_after_insert to k x q (ap (λ m. is_some (map.get m q)) (sym (carried-some from to k x h)) ∙ there)
+  some_carried from to k q (Some x) h there = live_after_insert to k x q (ap (λ m. is_some (map.get m q)) (sym (carry-some from to k x h)) ∙ there)
   some_carried from to k q None h there = inr (ap (λ m. is_some (map.get m q)) (sym (carried_none from to k h)) ∙ there)
 
   -- a removal of what is there makes room

@@ -16,9 +16,9 @@ use Rattle.mesh_base.proofs.Finite.{live_inserted, live_stays, got_after_remove,
 use Rattle.mesh_base.proofs.MeshLaws.{next_is_new}
 use Rattle.mesh_base.proofs.Listed.{each_found}
 use Rattle.mesh_base.proofs.ListedPairs.{all_weaker}
-use Rattle.half_mesh.specs.States.{State, none_buried, with_mesh, carried, bury_face, bury_vertex, AreApart}
+use Rattle.half_mesh.specs.States.{State, none_buried, with_mesh, carry, bury_face, bury_vertex, AreApart}
 use Rattle.half_mesh.proofs.Rings.{got_some}
-use Rattle.half_mesh.proofs.StateLaws.{carried-some}
+use Rattle.half_mesh.proofs.StateLaws.{carry-some}
 use Rattle.mesh_journal.specs.declared.entries.Entry.{Entry}
 use Rattle.mesh_journal.specs.declared.entries.Entry.TheVariants.{FaceMade, VertexMade, FaceDropped, VertexDropped, VertexPlaced, VertexMadeSolid, Unchanged}
 use Rattle.mesh_journal.specs.Undoable.{make_vertex, make_face}
@@ -149,8 +149,8 @@ buried_vertex s v is live =
         room = let l = len_below m.points v live in let few = is.sound.limits.vertices in omega (arith, l, few);
       };
       marks = λ q h. ⊎_elim
-          (λ e. ap is_some (ap (map.get (carried m.points b.points v)) e ∙ there))
-          (λ old. ap (λ ps. is_some (map.get ps q)) (carried-some m.points b.points v p has) ∙ live_stays b.points v p q (is.marks q old))
+          (λ e. ap is_some (ap (map.get (carry m.points b.points v)) e ∙ there))
+          (λ old. ap (λ ps. is_some (map.get ps q)) (carry-some m.points b.points v p has) ∙ live_stays b.points v p q (is.marks q old))
           (some_carried m.solid b.solid v q (map.get m.solid v) refl h);
     }
 

@@ -5,7 +5,7 @@ use grid_base::Point;
 use mesh_base::{FaceId, VertexId};
 
 /// What was done to a mesh, with what it takes to undo it.
-#[derive(Clone, Copy, Debug, PartialEq, Eq)]
+#[derive(Clone, Copy)]
 pub(crate) enum Entry {
     FaceMade(FaceId),
     VertexMade(VertexId),

@@ -1,5 +1,5 @@
 //! The journal over half-edges.
-ghost use Rattle.std.specs.Prelude.{◌≡◌, IfOk, None, [], ◌∷◌, length};
+ghost use Rattle.std.specs.Prelude.{◌≡◌, IfOk, [], ◌∷◌, length};
 
 use crate::journal::Journal;
 use crate::undoable::Undoable;
@@ -77,15 +77,15 @@ impl Undoable for HalfMesh {
 }
 
 impl Journal<HalfMesh> {
-    ghost use Rattle.mesh_base.specs.Given.{mesh_under};
-    ghost use Rattle.mesh_plain.specs.Shape.{shape_fault};
-    ghost use Rattle.mesh_plain.specs.Numbered.{MayBeNext, numbered};
+    ghost use Rattle.mesh_base.specs.Given.{listed_mesh};
+    ghost use Rattle.mesh_plain.specs.Shape.{HaveGoodShape};
+    ghost use Rattle.mesh_plain.specs.Numbered.{MayBeNext, numbered_mesh};
     ghost use Rattle.mesh_journal.specs.Journal.{mesh_in, kept_in};
 
     /// The mesh that lists of good shape give, with an empty journal.
     pub fn of(alloc: Global, scale: Scale, lists: &MeshLists) -> Result<JournalMesh, NoMemory>
-        requires { shape_fault scale (length lists.now.points) lists.now.faces ≡ None }
-        ensures mesh { IfOk result (λ s. mesh_in s ≡ mesh_under scale lists.now.points lists.now.faces) }
+        requires { HaveGoodShape scale lists.now }
+        ensures mesh { IfOk result (λ s. mesh_in s ≡ listed_mesh scale lists.now) }
         ensures kept { IfOk result (λ s. kept_in s ≡ mesh_in s ∷ []) }
     {
         let mesh = HalfMesh::of(alloc, scale, lists)?;
@@ -101,11 +101,11 @@ impl Journal<HalfMesh> {
         next_vertex: u32,
         next_face: u32,
     ) -> Result<JournalMesh, NoMemory>
-        requires shape { shape_fault scale (length lists.now.points) lists.now.faces ≡ None }
+        requires shape { HaveGoodShape scale lists.now }
         requires vertex { MayBeNext (length lists.now.points) next_vertex }
         requires face { MayBeNext (length lists.now.faces) next_face }
-        ensures mesh { IfOk result (λ s. mesh_in s
-            ≡ numbered (mesh_under scale lists.now.points lists.now.faces) next_vertex next_face) }
+        ensures mesh { IfOk result
+            (λ s. mesh_in s ≡ numbered_mesh scale lists.now next_vertex next_face) }
         ensures kept { IfOk result (λ s. kept_in s ≡ mesh_in s ∷ []) }
     {
         let mesh = HalfMesh::of_numbered(alloc, scale, lists, next_vertex, next_face)?;

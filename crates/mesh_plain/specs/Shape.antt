@@ -6,6 +6,7 @@ use Rattle.std.specs.Option.{option_or, option_map}
 use Rattle.std.specs.List.{position_from, flat_map, range_with_len}
 use Rattle.std.proofs.Common.{Option, Some, None}
 use Rattle.mesh_base.specs.declared.limits.Scale.{Scale}
+use Rattle.mesh_base.specs.declared.lists.MeshLists.{MeshLists}
 use Rattle.mesh_base.specs.Limits.{limits_of}
 use Rattle.grid_base.specs.declared.Point.{Point}
 use Rattle.mesh_base.specs.declared.ids.Corners.{Corners}
@@ -83,6 +84,14 @@ abbrev pub shape_fault : Scale → ℕ → Faces → Option ShapeFault
 shape_fault scale n fs =
     option_or (fault_but_balance scale n fs)
     (option_map (λ p. Unbalanced p.0 p.1) (first_unbalanced n fs))
+
+-- the same of lists
+abbrev pub lists_fault : Scale → MeshLists → Option ShapeFault
+lists_fault scale lists = shape_fault scale (length lists.points) lists.faces
+
+-- lists of good shape: no part fails
+abbrev pub HaveGoodShape : Scale → MeshLists → Type 0
+HaveGoodShape scale lists = lists_fault scale lists ≡ None
 
 -- no part fails
 abbrev pub HasNoFault : Scale → List Point → Faces → Type 0

@@ -10,7 +10,7 @@ use mesh_base::{Corners, VertexId};
 use std::alloc::Global;
 
 /// A face by its number, and its corners from the least on.
-type Keyed = (u32, Corners);
+type KeyedFace = (u32, Corners);
 
 /// The corners from the least on.
 fn least_first(f: &[u32; 3]) -> Corners
@@ -29,12 +29,12 @@ fn least_first(f: &[u32; 3]) -> Corners
 }
 
 /// The faces in the order of their numbers.
-fn keyed(alloc: Global, faces: &[[u32; 3]]) -> Result<Vec<Keyed>, NoMemory>
+fn keyed_faces(alloc: Global, faces: &[[u32; 3]]) -> Result<Vec<KeyedFace>, NoMemory>
     requires { length faces.now ≤ FACES_MAX }
     ensures all { IfOk result (λ list. list.items ≡ enumerate_from 1 (map key_of faces.now)) }
     ensures small { IfOk result (λ list. All IsSmall list.items) }
 {
-    let mut list: Vec<Keyed> = Vec::with_capacity(alloc, faces.len())?;
+    let mut list: Vec<KeyedFace> = Vec::with_capacity(alloc, faces.len())?;
     let mut number = 1;
     for f in faces {
         list.push((number, least_first(f)))?;
@@ -44,7 +44,7 @@ fn keyed(alloc: Global, faces: &[[u32; 3]]) -> Result<Vec<Keyed>, NoMemory>
 }
 
 /// A number that is smaller for the face whose key is less, or whose number is, where the keys are equal.
-fn rank(face: Keyed) -> u128
+fn rank(face: KeyedFace) -> u128
     ensures { result ≡ keyed_rank face }
 {
     let (number, c) = face;
@@ -53,7 +53,7 @@ fn rank(face: Keyed) -> u128
 }
 
 /// Puts faces in order.
-fn put_in_order(list: &mut Vec<Keyed>)
+fn put_in_order(list: &mut Vec<KeyedFace>)
     ensures order { IsNonDecreasingBy keyed_rank list.new.items }
     ensures same { IsPermutation list.old.items list.new.items }
 {
@@ -70,7 +70,7 @@ fn begins_before(number: u32, found: Option<(u32, u32)>) -> bool
 }
 
 /// The numbers of two neighbours, if they have one key and the first is less than that of what is found.
-fn with_pair(one: Keyed, next: Keyed, found: Option<(u32, u32)>) -> Option<(u32, u32)>
+fn with_pair(one: KeyedFace, next: KeyedFace, found: Option<(u32, u32)>) -> Option<(u32, u32)>
     ensures { result ≡ with_pair one next found }
 {
     if one.1 == next.1 && begins_before(one.0, found) {
@@ -81,7 +81,7 @@ fn with_pair(one: Keyed, next: Keyed, found: Option<(u32, u32)>) -> Option<(u32,
 }
 
 /// The numbers of two neighbours with one key, those whose first is least.
-fn least_pair(list: &[Keyed]) -> Option<(u32, u32)>
+fn least_pair(list: &[KeyedFace]) -> Option<(u32, u32)>
     ensures { result ≡ least_pair list.now }
 {
     let mut found = None;
@@ -101,7 +101,7 @@ pub(crate) fn doubled_by_key(
     requires { length faces.now ≤ FACES_MAX }
     ensures { IfOk result (λ found. found ≡ doubled_by_key 1 faces.now) }
 {
-    let mut list = keyed(alloc, faces)?;
+    let mut list = keyed_faces(alloc, faces)?;
     put_in_order(&mut list);
     Ok(least_pair(&list))
 }

@@ -3,8 +3,8 @@ ghost use Rattle.grid_base.specs.declared.TheConstants.{FACES_MAX};
 ghost use Rattle.mesh_base.specs.Mesh.{IsSound};
 ghost use Rattle.mesh_base.specs.Sides.{IsClosed};
 ghost use Rattle.mesh_base.specs.Changes.{corners_of};
-ghost use Rattle.mesh_base.specs.Given.{mesh_under};
-ghost use Rattle.mesh_plain.specs.Shape.{bad_corner, no_vertex_from, repeats, repeated_from, doubled_from, shape_fault, IsRefusal, IsJust, EarlierHold};
+ghost use Rattle.mesh_base.specs.Given.{listed_mesh};
+ghost use Rattle.mesh_plain.specs.Shape.{bad_corner, no_vertex_from, repeats, repeated_from, doubled_from, lists_fault, HaveGoodShape, IsRefusal, IsJust, EarlierHold};
 ghost use Rattle.mesh_plain.specs.Balance.{AreSidesOf};
 ghost use Rattle.mesh_plain.specs.Parts.{fault_of_each};
 
@@ -18,15 +18,14 @@ use std::alloc::Global;
 /// least place: the least face, then corner, or the least two numbers, the first compared first.
 pub fn shape(alloc: Global, scale: Scale, lists: &MeshLists) -> Result<(), ShapeRefusal>
     // Ok: no fault, which is to say a mesh within its limits, and closed.
-    ensures none { IsOk result → shape_fault scale (length lists.now.points) lists.now.faces ≡ None }
-    ensures sound { IsOk result → IsSound (mesh_under scale lists.now.points lists.now.faces) }
-    ensures closed { IsOk result → IsClosed (mesh_under scale lists.now.points lists.now.faces) }
+    ensures none { IsOk result → HaveGoodShape scale lists.now }
+    ensures sound { IsOk result → IsSound (listed_mesh scale lists.now) }
+    ensures closed { IsOk result → IsClosed (listed_mesh scale lists.now) }
 
     // A fault: the first. What it names is at fault, and the parts before the one that it denies hold.
-    ensures first { IfErr result
-        (IsRefusal (shape_fault scale (length lists.now.points) lists.now.faces)) }
-    ensures just { IfErr result (IsJust (mesh_under scale lists.now.points lists.now.faces)) }
-    ensures earlier { IfErr result (EarlierHold (mesh_under scale lists.now.points lists.now.faces)) }
+    ensures first { IfErr result (IsRefusal (lists_fault scale lists.now)) }
+    ensures just { IfErr result (IsJust (listed_mesh scale lists.now)) }
+    ensures earlier { IfErr result (EarlierHold (listed_mesh scale lists.now)) }
 {
     match fault_of(alloc, scale, lists) {
         Ok(None) => Ok(()),
@@ -37,7 +36,7 @@ pub fn shape(alloc: Global, scale: Scale, lists: &MeshLists) -> Result<(), Shape
 
 /// What is wrong with lists.
 fn fault_of(alloc: Global, scale: Scale, lists: &MeshLists) -> Result<Option<ShapeFault>, NoMemory>
-    ensures { IfOk result (λ fault. fault ≡ shape_fault scale (length lists.now.points) lists.now.faces) }
+    ensures { IfOk result (λ fault. fault ≡ lists_fault scale lists.now) }
 {
     if let Some(fault) = fault_of_each(scale, lists) {
         return Ok(Some(fault));

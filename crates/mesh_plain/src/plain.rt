@@ -18,16 +18,16 @@ pub struct PlainMesh {
 }
 
 impl PlainMesh {
-    ghost use Rattle.mesh_plain.specs.Shape.{shape_fault};
-    ghost use Rattle.mesh_base.specs.Given.{mesh_under};
-    ghost use Rattle.mesh_plain.specs.Numbered.{MayBeNext, numbered};
+    ghost use Rattle.mesh_plain.specs.Shape.{HaveGoodShape};
+    ghost use Rattle.mesh_base.specs.Given.{listed_mesh};
+    ghost use Rattle.mesh_plain.specs.Numbered.{MayBeNext, numbered_mesh};
     ghost use Rattle.mesh_plain.specs.Plain.{mesh_in, kept_in};
-    ghost use Rattle.std.specs.Prelude.{None, [], IfOk, length};
+    ghost use Rattle.std.specs.Prelude.{[], IfOk, length};
 
     /// The mesh that lists of good shape give, with the limits of a scale and with nothing kept.
     pub fn of(alloc: Global, scale: Scale, lists: &MeshLists) -> Result<PlainMesh, NoMemory>
-        requires { shape_fault scale (length lists.now.points) lists.now.faces ≡ None }
-        ensures mesh { IfOk result (λ s. mesh_in s ≡ mesh_under scale lists.now.points lists.now.faces) }
+        requires { HaveGoodShape scale lists.now }
+        ensures mesh { IfOk result (λ s. mesh_in s ≡ listed_mesh scale lists.now) }
         ensures kept { IfOk result (λ s. kept_in s ≡ []) }
     {
         let now = Tables::of(alloc, scale, lists)?;
@@ -46,11 +46,11 @@ impl PlainMesh {
         next_vertex: u32,
         next_face: u32,
     ) -> Result<PlainMesh, NoMemory>
-        requires shape { shape_fault scale (length lists.now.points) lists.now.faces ≡ None }
+        requires shape { HaveGoodShape scale lists.now }
         requires vertex { MayBeNext (length lists.now.points) next_vertex }
         requires face { MayBeNext (length lists.now.faces) next_face }
-        ensures mesh { let listed = mesh_under scale lists.now.points lists.now.faces in
-            IfOk result (λ s. mesh_in s ≡ numbered listed next_vertex next_face) }
+        ensures mesh { IfOk result
+            (λ s. mesh_in s ≡ numbered_mesh scale lists.now next_vertex next_face) }
         ensures kept { IfOk result (λ s. kept_in s ≡ []) }
     {
         let mut now = Tables::of(alloc, scale, lists)?;

@@ -1,6 +1,6 @@
 //! The ordered maps of one mesh.
 ghost use Rattle.grid_base.specs.declared.TheConstants.{VERTICES_MAX, FACES_MAX};
-ghost use Rattle.mesh_base.specs.Given.{mesh_under, empty_mesh};
+ghost use Rattle.mesh_base.specs.Given.{listed_mesh, empty_mesh};
 ghost use Rattle.mesh_base.specs.Limits.{under};
 ghost use Rattle.mesh_plain.specs.Numbered.{numbered};
 ghost use Rattle.std.specs.Prelude.{◌≤◌, ◌≡◌, ◌<◌, ◌+◌, ◌^◌, IfOk, OnOk, OnErr, IsNone, slice_get, length, []};
@@ -90,7 +90,7 @@ impl Tables {
     pub(crate) fn of(alloc: Global, scale: Scale, lists: &MeshLists) -> Result<Tables, NoMemory>
         requires points { length lists.now.points ≤ VERTICES_MAX }
         requires faces { length lists.now.faces ≤ FACES_MAX }
-        ensures { IfOk result (λ t. t ≡ mesh_under scale lists.now.points lists.now.faces) }
+        ensures { IfOk result (λ t. t ≡ listed_mesh scale lists.now) }
     {
         let mut tables = Tables::new(alloc);
         tables.allow(scale.limits());

@@ -8,15 +8,15 @@ use Rattle.mesh_base.specs.Mesh.{Mesh}
 use Rattle.mesh_base.specs.Kept.{BeginsWith, MarkHolds, StandsFor}
 use Rattle.mesh_base.proofs.MarksHold.{slice_get-take, fits, holds_along}
 use Rattle.mesh_base.specs.Given.{empty_mesh}
-use Rattle.mesh_play.specs.Play.{Played, stood_for, marked_by, AreMarks}
+use Rattle.mesh_play.specs.Play.{PlayState, mesh_at_mark, meshes_at_marks, AreMarks}
 
 same_there : (new old : List Mesh) (i : ℕ) → BeginsWith new old → i < length old → slice_get new i ≡ slice_get old i
 same_there new old i h less = sym (slice_get-take (length old) i new less) ∙ ap (λ kept. slice_get kept i) h
 
-pub same_played : (m n : Mesh) (k l : List Mesh) → m ≡ n → k ≡ l → ◌≡◌ {A = Played} (record { mesh = m; marked = k }) (record { mesh = n; marked = l })
+pub same_played : (m n : Mesh) (k l : List Mesh) → m ≡ n → k ≡ l → ◌≡◌ {A = PlayState} (record { mesh = m; marked = k }) (record { mesh = n; marked = l })
 same_played m n k l e e' = λ i. record { mesh = e i; marked = e' i }
 
-same_stood : (new old : List Mesh) (k : Mark) → slice_get new k.place ≡ slice_get old k.place → stood_for new k ≡ stood_for old k
+same_stood : (new old : List Mesh) (k : Mark) → slice_get new k.place ≡ slice_get old k.place → mesh_at_mark new k ≡ mesh_at_mark old k
 same_stood new old k e = ap (λ o. unwrap_or o empty_mesh) e
 
 map_same : {A B : Type 0} (f g : A → B) (xs : List A) → ((i : ℕ) (x : A) → slice_get xs i ≡ Some x → f x ≡ g x) → map f xs ≡ map g xs
@@ -50,15 +50,15 @@ pushed_cases (z ∷ xs) x y zero h = inl h
 pushed_cases (z ∷ xs) x y (suc i) h = ⊎_elim (λ old. inl old) (λ new. inr (ap suc new.0, new.1)) (pushed_cases xs x y i h)
 
 -- a call that leaves what was kept leaves the meshes of the marks
-pub marked_along : (beyond : ℕ) (new old : List Mesh) (marks : List Mark) → AreMarks beyond old marks → BeginsWith new old → marked_by new marks ≡ marked_by old marks
-marked_along beyond new old marks are h = map_same (stood_for new) (stood_for old) marks (λ i m e. same_stood new old m (same_there new old m.place h (are.hold i m e).kept_there))
+pub marked_along : (beyond : ℕ) (new old : List Mesh) (marks : List Mark) → AreMarks beyond old marks → BeginsWith new old → meshes_at_marks new marks ≡ meshes_at_marks old marks
+marked_along beyond new old marks are h = map_same (mesh_at_mark new) (mesh_at_mark old) marks (λ i m e. same_stood new old m (same_there new old m.place h (are.hold i m e).kept_there))
 
 -- a mark was made
-pub marked_made : (beyond : ℕ) (new old : List Mesh) (marks : List Mark) (mark : Mark) (m : Mesh) → AreMarks beyond old marks → BeginsWith new old → StandsFor new mark m → marked_by new (marks ++ mark ∷ []) ≡ marked_by old marks ++ m ∷ []
+pub marked_made : (beyond : ℕ) (new old : List Mesh) (marks : List Mark) (mark : Mark) (m : Mesh) → AreMarks beyond old marks → BeginsWith new old → StandsFor new mark m → meshes_at_marks new (marks ++ mark ∷ []) ≡ meshes_at_marks old marks ++ m ∷ []
 marked_made beyond new old marks mark m are h stands =
-    map_push (stood_for new) marks mark
-    ∙ ap (λ ms. ms ++ stood_for new mark ∷ []) (marked_along beyond new old marks are h)
-    ∙ ap (λ o. marked_by old marks ++ unwrap_or o empty_mesh ∷ []) stands
+    map_push (mesh_at_mark new) marks mark
+    ∙ ap (λ ms. ms ++ mesh_at_mark new mark ∷ []) (marked_along beyond new old marks are h)
+    ∙ ap (λ o. meshes_at_marks old marks ++ unwrap_or o empty_mesh ∷ []) stands
 
 pub marks_made : (beyond : ℕ) (new old : List Mesh) (marks : List Mark) (mark : Mark) → AreMarks beyond old marks → BeginsWith new old → MarkHolds beyond new mark → mark.under ≡ length old → AreMarks beyond new (marks ++ mark ∷ [])
 marks_made beyond new old marks mark are h holds under = record {
@@ -77,12 +77,12 @@ place_below beyond old marks nth mark are is i k e =
 inside_front : (old : List Mesh) (place under : ℕ) → place < under → place < length old → place < length (take under old)
 inside_front old place under h h' = omega (arith, length-take under old)
 
-pub marked_back : (beyond : ℕ) (new old : List Mesh) (marks : List Mark) (nth : ℕ) (mark : Mark) → AreMarks beyond old marks → slice_get marks nth ≡ Some mark → BeginsWith new (take mark.under old) → marked_by new (take nth marks) ≡ take nth (marked_by old marks)
+pub marked_back : (beyond : ℕ) (new old : List Mesh) (marks : List Mark) (nth : ℕ) (mark : Mark) → AreMarks beyond old marks → slice_get marks nth ≡ Some mark → BeginsWith new (take mark.under old) → meshes_at_marks new (take nth marks) ≡ take nth (meshes_at_marks old marks)
 marked_back beyond new old marks nth mark are is h =
-    map_same (stood_for new) (stood_for old) (take nth marks) (λ i k e.
+    map_same (mesh_at_mark new) (mesh_at_mark old) (take nth marks) (λ i k e.
     let low = place_below beyond old marks nth mark are is i k e in
     same_stood new old k (same_there new (take mark.under old) k.place h (inside_front old k.place mark.under low.0 low.1) ∙ slice_get-take mark.under k.place old low.0))
-    ∙ map_take (stood_for old) nth marks
+    ∙ map_take (mesh_at_mark old) nth marks
 
 pub marks_back : (beyond : ℕ) (new old : List Mesh) (marks : List Mark) (nth : ℕ) (mark : Mark) → AreMarks beyond old marks → slice_get marks nth ≡ Some mark → BeginsWith new (take mark.under old) → AreMarks beyond new (take nth marks)
 marks_back beyond new old marks nth mark are is h = record {
@@ -94,8 +94,8 @@ marks_back beyond new old marks nth mark are is h = record {
 }
 
 -- the mesh gone back to is the one of the mark
-pub mesh_back : (old : List Mesh) (marks : List Mark) (nth : ℕ) (mark : Mark) (m n : Mesh) → slice_get marks nth ≡ Some mark → StandsFor old mark m → m ≡ slice_index_or (marked_by old marks) nth n
-mesh_back old marks nth mark m n is stands = sym (map_at (stood_for old) marks nth mark n is ∙ ap (λ o. unwrap_or o empty_mesh) stands)
+pub mesh_back : (old : List Mesh) (marks : List Mark) (nth : ℕ) (mark : Mark) (m n : Mesh) → slice_get marks nth ≡ Some mark → StandsFor old mark m → m ≡ slice_index_or (meshes_at_marks old marks) nth n
+mesh_back old marks nth mark m n is stands = sym (map_at (mesh_at_mark old) marks nth mark n is ∙ ap (λ o. unwrap_or o empty_mesh) stands)
 
 -- a call that leaves what was kept leaves the marks
 pub marks_along : (beyond : ℕ) (new old : List Mesh) (marks : List Mark) → AreMarks beyond old marks → BeginsWith new old → AreMarks beyond new marks

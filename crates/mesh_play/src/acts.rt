@@ -1,7 +1,7 @@
 ghost use Rattle.std.specs.Prelude.{◌≡◌, IfOk, OnOk, OnErr};
 ghost use Rattle.mesh_base.specs.Changes.{corners_of, IsFresh};
 ghost use Rattle.mesh_base.specs.Kept.{BeginsWith};
-ghost use Rattle.mesh_play.specs.Play.{acted, act_answer, IsAllowed, more_vertex, more_face, vertex_answer, face_answer};
+ghost use Rattle.mesh_play.specs.Play.{mesh_after_act, act_answer, IsAllowed, IsUnchanged, more_vertex, more_face, vertex_answer, face_answer};
 
 use crate::calls::{Act, Answer};
 use grid_base::{NoMemory, Point};
@@ -11,10 +11,9 @@ use mesh_base::{AddFault, Surface, VertexId};
 pub fn do_act<S: Surface>(surface: &mut S, act: &Act) -> Result<Answer, NoMemory>
     requires { IsAllowed (S.mesh surface.old) act.now }
     ensures answer { IfOk result (λ answer. answer ≡ act_answer (S.mesh surface.old) act.now) }
-    ensures mesh { OnOk result (S.mesh surface.new ≡ acted (S.mesh surface.old) act.now) }
+    ensures mesh { OnOk result (S.mesh surface.new ≡ mesh_after_act (S.mesh surface.old) act.now) }
     ensures marks { BeginsWith (S.kept surface.new) (S.kept surface.old) }
-    ensures err { OnErr result
-        ((S.mesh surface.new ≡ S.mesh surface.old) × (S.kept surface.new ≡ S.kept surface.old)) }
+    ensures err { OnErr result (IsUnchanged S.mesh S.kept surface) }
 {
     match *act {
         Act::AddVertex { p } => add_vertex(surface, p),
@@ -43,8 +42,7 @@ fn add_vertex<S: Surface>(surface: &mut S, p: Point) -> Result<Answer, NoMemory>
     ensures answer { IfOk result (λ answer. answer ≡ vertex_answer (S.mesh surface.old)) }
     ensures mesh { OnOk result (S.mesh surface.new ≡ more_vertex (S.mesh surface.old) p) }
     ensures marks { BeginsWith (S.kept surface.new) (S.kept surface.old) }
-    ensures err { OnErr result
-        ((S.mesh surface.new ≡ S.mesh surface.old) × (S.kept surface.new ≡ S.kept surface.old)) }
+    ensures err { OnErr result (IsUnchanged S.mesh S.kept surface) }
 {
     match surface.add_vertex(p) {
         Ok(v) => Ok(Answer::VertexMade { v }),
@@ -59,8 +57,7 @@ fn add_face<S: Surface>(surface: &mut S, c: [VertexId; 3]) -> Result<Answer, NoM
     ensures answer { IfOk result (λ answer. answer ≡ face_answer (S.mesh surface.old)) }
     ensures mesh { OnOk result (S.mesh surface.new ≡ more_face (S.mesh surface.old) c) }
     ensures marks { BeginsWith (S.kept surface.new) (S.kept surface.old) }
-    ensures err { OnErr result
-        ((S.mesh surface.new ≡ S.mesh surface.old) × (S.kept surface.new ≡ S.kept surface.old)) }
+    ensures err { OnErr result (IsUnchanged S.mesh S.kept surface) }
 {
     match surface.add_face(c) {
         Ok(f) => Ok(Answer::FaceMade { f }),

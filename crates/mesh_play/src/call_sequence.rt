@@ -1,5 +1,5 @@
 ghost use Rattle.std.specs.Prelude.{◌≡◌, IfOk, OnOk, OnErr, []};
-ghost use Rattle.mesh_play.specs.Play.{seen, start_of, after, after_all, answer_of, answers_of, IsLawful, AreLawful, IsStopped, IsEitherStopped, AreMarks};
+ghost use Rattle.mesh_play.specs.Play.{play_state, start_of, answers_in, mesh_after, IsLawful, AreLawful, IsStopped, IsEitherStopped, IsUnchanged, IsAnswer, IsDone, AreMarks};
 
 use crate::acts::do_act;
 use crate::calls::{Answer, Answers, Call};
@@ -13,12 +13,9 @@ use std::alloc::Global;
 /// is wanting are made, and this one and those after it are not.
 pub fn play<S: Surface>(alloc: Global, surface: &mut S, calls: &[Call]) -> Result<Answers, NoMemory>
     requires { AreLawful (start_of (S.mesh surface.old)) calls.now }
-    ensures answers { IfOk result
-        (λ told. told ≡ answers_of (start_of (S.mesh surface.old)) calls.now) }
-    ensures mesh { OnOk result
-        (S.mesh surface.new ≡ (after_all (start_of (S.mesh surface.old)) calls.now).mesh) }
-    ensures err { OnErr result
-        (IsStopped (start_of (S.mesh surface.old)) calls.now (S.mesh surface.new)) }
+    ensures answers { IfOk result (λ answers. answers ≡ answers_in (S.mesh surface.old) calls.now) }
+    ensures mesh { OnOk result (S.mesh surface.new ≡ mesh_after (S.mesh surface.old) calls.now) }
+    ensures err { OnErr result (IsStopped (S.mesh surface.old) calls.now (S.mesh surface.new)) }
 {
     let mut marks: Vec<Mark> = Vec::new(alloc);
     let mut answers: Vec<Answer> = Vec::new(alloc);
@@ -41,8 +38,7 @@ pub fn play_both<S: Surface, T: Surface>(
     requires same { S.mesh one.old ≡ T.mesh other.old }
     ensures answers { IfOk result (λ both. both.0 ≡ both.1) }
     ensures mesh { OnOk result (S.mesh one.new ≡ T.mesh other.new) }
-    ensures err { OnErr result (IsEitherStopped
-        (start_of (S.mesh one.old)) calls.now (S.mesh one.new) (T.mesh other.new)) }
+    ensures err { OnErr result (IsEitherStopped S.mesh T.mesh one other calls.now) }
 {
     let first = play(alloc, one, calls)?;
     let second = play(alloc, other, calls)?;
@@ -57,15 +53,12 @@ pub fn play_one<S: Surface>(
     marks: &mut Vec<Mark>,
     call: &Call,
 ) -> Result<Answer, NoMemory>
-    requires lawful { IsLawful (seen S.mesh S.kept surface.old marks.old.items) call.now }
+    requires lawful { IsLawful (play_state S.mesh S.kept surface.old marks.old.items) call.now }
     requires marks { AreMarks S.beyond (S.kept surface.old) marks.old.items }
-    ensures answer { IfOk result
-        (λ it. it ≡ answer_of (seen S.mesh S.kept surface.old marks.old.items) call.now) }
-    ensures after { OnOk result (seen S.mesh S.kept surface.new marks.new.items
-        ≡ after (seen S.mesh S.kept surface.old marks.old.items) call.now) }
+    ensures answer { IfOk result (IsAnswer S.mesh S.kept surface marks call.now) }
+    ensures after { OnOk result (IsDone S.mesh S.kept surface marks call.now) }
     ensures marks { AreMarks S.beyond (S.kept surface.new) marks.new.items }
-    ensures err { OnErr result
-        ((S.mesh surface.new ≡ S.mesh surface.old) × (S.kept surface.new ≡ S.kept surface.old)) }
+    ensures err { OnErr result (IsUnchanged S.mesh S.kept surface) }
     ensures err_marks { OnErr result (marks.new.items ≡ marks.old.items) }
 {
     match *call {

@@ -2,7 +2,7 @@ use grid_base::{Extent, Items, Point};
 use mesh_base::{FaceId, FaceIds, VertexId};
 
 /// A call of a surface.
-#[derive(Clone, Copy, Debug, PartialEq, Eq)]
+#[derive(Clone, Copy)]
 pub enum Call {
     /// Asks about the mesh.
     Ask { question: Question },
@@ -20,7 +20,7 @@ pub enum Call {
 }
 
 /// A call that asks about the mesh.
-#[derive(Clone, Copy, Debug, PartialEq, Eq)]
+#[derive(Clone, Copy)]
 pub enum Question {
     CountVertices,
     CountFaces,
@@ -38,7 +38,7 @@ pub enum Question {
 }
 
 /// A call that changes the mesh.
-#[derive(Clone, Copy, Debug, PartialEq, Eq)]
+#[derive(Clone, Copy)]
 pub enum Act {
     AddVertex { p: Point },
     AddFace { c: [VertexId; 3] },

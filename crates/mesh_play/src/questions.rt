@@ -1,7 +1,7 @@
 ghost use Rattle.std.specs.Prelude.{◌≡◌, IfOk};
 ghost use Rattle.mesh_base.specs.Near.{faces_near};
 ghost use Rattle.mesh_base.specs.Sides.{faces_at};
-ghost use Rattle.mesh_play.specs.Play.{told, faces_answer};
+ghost use Rattle.mesh_play.specs.Play.{question_answer, faces_answer};
 
 use crate::calls::{Answer, Question};
 use grid_base::{Extent, NoMemory};
@@ -14,7 +14,7 @@ pub(crate) fn answer_to<S: Surface>(
     surface: &S,
     question: &Question,
 ) -> Result<Answer, NoMemory>
-    ensures { IfOk result (λ answer. answer ≡ told (S.mesh surface.now) question.now) }
+    ensures { IfOk result (λ answer. answer ≡ question_answer (S.mesh surface.now) question.now) }
 {
     let answer = match *question {
         Question::CountVertices => Answer::Number {
@@ -48,14 +48,14 @@ pub(crate) fn answer_to<S: Surface>(
         Question::RunFace { u, v, nth } => Answer::FaceFound {
             f: surface.run_face(u, v, nth),
         },
-        Question::FacesAt { v } => found_at(alloc, surface, v)?,
-        Question::FacesNear { at } => found_near(alloc, surface, at)?,
+        Question::FacesAt { v } => faces_at_vertex(alloc, surface, v)?,
+        Question::FacesNear { at } => faces_near_extent(alloc, surface, at)?,
     };
     Ok(answer)
 }
 
 /// The faces at a vertex.
-fn found_at<S: Surface>(alloc: Global, surface: &S, v: VertexId) -> Result<Answer, NoMemory>
+fn faces_at_vertex<S: Surface>(alloc: Global, surface: &S, v: VertexId) -> Result<Answer, NoMemory>
     ensures { IfOk result (λ answer. answer ≡ faces_answer (faces_at (S.mesh surface.now) v)) }
 {
     let mut found = Vec::new(alloc);
@@ -66,7 +66,7 @@ fn found_at<S: Surface>(alloc: Global, surface: &S, v: VertexId) -> Result<Answe
 }
 
 /// The faces near an extent.
-fn found_near<S: Surface>(alloc: Global, surface: &S, at: Extent) -> Result<Answer, NoMemory>
+fn faces_near_extent<S: Surface>(alloc: Global, surface: &S, at: Extent) -> Result<Answer, NoMemory>
     ensures { IfOk result (λ answer. answer ≡ faces_answer (faces_near (S.mesh surface.now) at)) }
 {
     let mut found = Vec::new(alloc);

@@ -1,8 +1,8 @@
 //! The same calls of one mesh, kept in three ways.
-ghost use Rattle.std.specs.Prelude.{◌≡◌, None, IfOk, length};
-ghost use Rattle.mesh_base.specs.Given.{mesh_under};
-ghost use Rattle.mesh_plain.specs.Shape.{shape_fault};
-ghost use Rattle.mesh_play.specs.Play.{start_of, answers_of, AreLawful};
+ghost use Rattle.std.specs.Prelude.{◌≡◌, IfOk};
+ghost use Rattle.mesh_base.specs.Given.{listed_mesh};
+ghost use Rattle.mesh_plain.specs.Shape.{HaveGoodShape};
+ghost use Rattle.mesh_play.specs.Play.{start_of, answers_in, AreLawful};
 
 use crate::call_sequence::play;
 use crate::calls::{Answers, Call};
@@ -30,12 +30,12 @@ pub fn play_three(
     lists: &MeshLists,
     calls: &[Call],
 ) -> Result<ThreeAnswers, NoMemory>
-    requires shape { shape_fault scale (length lists.now.points) lists.now.faces ≡ None }
-    requires lawful { AreLawful (start_of (mesh_under scale lists.now.points lists.now.faces)) calls.now }
-    ensures plain { IfOk result (λ told. told.plain
-        ≡ answers_of (start_of (mesh_under scale lists.now.points lists.now.faces)) calls.now) }
-    ensures half { IfOk result (λ told. told.half ≡ told.plain) }
-    ensures journal { IfOk result (λ told. told.journal ≡ told.plain) }
+    requires shape { HaveGoodShape scale lists.now }
+    requires lawful { AreLawful (start_of (listed_mesh scale lists.now)) calls.now }
+    ensures plain { IfOk result
+        (λ it. it.plain ≡ answers_in (listed_mesh scale lists.now) calls.now) }
+    ensures half { IfOk result (λ it. it.half ≡ it.plain) }
+    ensures journal { IfOk result (λ it. it.journal ≡ it.plain) }
 {
     let mut plain = PlainMesh::of(alloc, scale, lists)?;
     let mut half = HalfMesh::of(alloc, scale, lists)?;

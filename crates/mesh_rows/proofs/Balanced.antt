@@ -16,7 +16,7 @@ use Rattle.mesh_plain.proofs.Lists.{none_of}
 use Rattle.mesh_rows.specs.declared.rows.FaceRow.{FaceRow}
 use Rattle.mesh_rows.specs.declared.rows.MeshRows.{MeshRows}
 use Rattle.mesh_rows.specs.Rows.{face_entry, mesh_of_rows}
-use Rattle.mesh_rows.specs.Making.{made_of}
+use Rattle.mesh_rows.specs.Making.{of_all_rows}
 use Rattle.mesh_rows.specs.Faults.{side_fault, sides_fault, balance_fault, made_fault}
 use Rattle.mesh_rows.proofs.Parts.{balanced_test}
 use Rattle.mesh_rows.proofs.MadeRows.{no_balance_fault, faces_are}
@@ -85,5 +85,5 @@ closed_along m n same closed u v =
 
 pub closed_rows : (scale : Scale) (rows : MeshRows) → made_fault scale rows ≡ None → IsClosed (mesh_of_rows scale rows)
 closed_rows scale rows none =
-    let m = made_of scale rows in
+    let m = of_all_rows scale rows in
     closed_along m (mesh_of_rows scale rows) (faces_are scale rows none) (closed_by m (map face_entry rows.faces) (faces_are scale rows none) (all_even m rows.faces (no_balance_fault scale rows none)))

@@ -10,7 +10,7 @@ use Rattle.mesh_rows.specs.declared.rows.VertexRow.{VertexRow}
 use Rattle.mesh_rows.specs.declared.rows.FaceRow.{FaceRow}
 use Rattle.mesh_rows.specs.declared.rows.MeshRows.{MeshRows}
 use Rattle.mesh_rows.specs.Rows.{vertex_entry, face_entry, solid_entry, mesh_of_rows}
-use Rattle.mesh_rows.specs.Making.{with_vertex_row, with_vertex_rows, with_face_row, with_face_rows, with_solids, empty_under, of_vertices, of_faces, made_of}
+use Rattle.mesh_rows.specs.Making.{with_vertex_row, with_vertex_rows, with_face_row, with_face_rows, with_solids, empty_under, of_vertices, of_faces, of_all_rows}
 use Rattle.mesh_rows.specs.Faults.{vertices_fault, faces_fault, solids_fault, balance_fault, made_fault}
 use Rattle.mesh_rows.proofs.Parts.{passed, may_be, rises}
 use Rattle.mesh_rows.proofs.Inserted.{Rises, inserted, inserted_empty}
@@ -91,36 +91,36 @@ limits_by_solids m (v ∷ vs) = limits_by_solids (with_solid m v) vs
 
 -- ---- all
 module _ (scale : Scale) (rows : MeshRows) (none : made_fault scale rows ≡ None) where
-  behind_vertices : (vertices_fault rows.next_vertex 1 (empty_under scale) rows.vertices ≡ None) × (option_or (faces_fault rows.next_face 1 (of_vertices scale rows) rows.faces) (option_or (solids_fault 0 (of_faces scale rows) rows.solids) (balance_fault (made_of scale rows) rows.faces)) ≡ None)
-  behind_vertices = none_of (vertices_fault rows.next_vertex 1 (empty_under scale) rows.vertices) (option_or (faces_fault rows.next_face 1 (of_vertices scale rows) rows.faces) (option_or (solids_fault 0 (of_faces scale rows) rows.solids) (balance_fault (made_of scale rows) rows.faces))) none
+  behind_vertices : (vertices_fault rows.next_vertex 1 (empty_under scale) rows.vertices ≡ None) × (option_or (faces_fault rows.next_face 1 (of_vertices scale rows) rows.faces) (option_or (solids_fault 0 (of_faces scale rows) rows.solids) (balance_fault (of_all_rows scale rows) rows.faces)) ≡ None)
+  behind_vertices = none_of (vertices_fault rows.next_vertex 1 (empty_under scale) rows.vertices) (option_or (faces_fault rows.next_face 1 (of_vertices scale rows) rows.faces) (option_or (solids_fault 0 (of_faces scale rows) rows.solids) (balance_fault (of_all_rows scale rows) rows.faces))) none
 
-  behind_faces : (faces_fault rows.next_face 1 (of_vertices scale rows) rows.faces ≡ None) × (option_or (solids_fault 0 (of_faces scale rows) rows.solids) (balance_fault (made_of scale rows) rows.faces) ≡ None)
-  behind_faces = none_of (faces_fault rows.next_face 1 (of_vertices scale rows) rows.faces) (option_or (solids_fault 0 (of_faces scale rows) rows.solids) (balance_fault (made_of scale rows) rows.faces)) behind_vertices.1
+  behind_faces : (faces_fault rows.next_face 1 (of_vertices scale rows) rows.faces ≡ None) × (option_or (solids_fault 0 (of_faces scale rows) rows.solids) (balance_fault (of_all_rows scale rows) rows.faces) ≡ None)
+  behind_faces = none_of (faces_fault rows.next_face 1 (of_vertices scale rows) rows.faces) (option_or (solids_fault 0 (of_faces scale rows) rows.solids) (balance_fault (of_all_rows scale rows) rows.faces)) behind_vertices.1
 
-  behind_solids : (solids_fault 0 (of_faces scale rows) rows.solids ≡ None) × (balance_fault (made_of scale rows) rows.faces ≡ None)
-  behind_solids = none_of (solids_fault 0 (of_faces scale rows) rows.solids) (balance_fault (made_of scale rows) rows.faces) behind_faces.1
+  behind_solids : (solids_fault 0 (of_faces scale rows) rows.solids ≡ None) × (balance_fault (of_all_rows scale rows) rows.faces ≡ None)
+  behind_solids = none_of (solids_fault 0 (of_faces scale rows) rows.solids) (balance_fault (of_all_rows scale rows) rows.faces) behind_faces.1
 
-  pub no_balance_fault : balance_fault (made_of scale rows) rows.faces ≡ None
+  pub no_balance_fault : balance_fault (of_all_rows scale rows) rows.faces ≡ None
   no_balance_fault = behind_solids.1
 
-  points_are : (made_of scale rows).points ≡ (mesh_of_rows scale rows).points
+  points_are : (of_all_rows scale rows).points ≡ (mesh_of_rows scale rows).points
   points_are =
       points_stay (of_faces scale rows) rows.solids ∙ points_left (of_vertices scale rows) rows.faces ∙ vertices_put (empty_under scale) rows.vertices
       ∙ inserted_empty 1 (map vertex_entry rows.vertices) (vertices_rise rows.next_vertex 1 (empty_under scale) rows.vertices behind_vertices.0)
 
-  pub faces_are : (made_of scale rows).faces ≡ (mesh_of_rows scale rows).faces
+  pub faces_are : (of_all_rows scale rows).faces ≡ (mesh_of_rows scale rows).faces
   faces_are =
       faces_stay (of_faces scale rows) rows.solids ∙ faces_put (of_vertices scale rows) rows.faces ∙ ap (λ n. inserted n (map face_entry rows.faces)) (faces_left (empty_under scale) rows.vertices)
       ∙ inserted_empty (of_vertices scale rows).next_face (map face_entry rows.faces) (faces_rise rows.next_face 1 (of_vertices scale rows) rows.faces behind_faces.0)
 
-  solids_are : (made_of scale rows).solid ≡ (mesh_of_rows scale rows).solid
+  solids_are : (of_all_rows scale rows).solid ≡ (mesh_of_rows scale rows).solid
   solids_are =
       solids_put (of_faces scale rows) rows.solids ∙ ap (λ n. inserted n (map solid_entry rows.solids)) (solids_stay (of_vertices scale rows) rows.faces ∙ solids_left (empty_under scale) rows.vertices)
       ∙ inserted_empty 1 (map solid_entry rows.solids) (solids_rise 0 (of_faces scale rows) rows.solids behind_solids.0)
 
-  limits_are : (made_of scale rows).limits ≡ (mesh_of_rows scale rows).limits
+  limits_are : (of_all_rows scale rows).limits ≡ (mesh_of_rows scale rows).limits
   limits_are =
       limits_by_solids (of_faces scale rows) rows.solids ∙ limits_by_faces (of_vertices scale rows) rows.faces ∙ limits_by_vertices (empty_under scale) rows.vertices
 
-  pub made_is : numbered (made_of scale rows) rows.next_vertex rows.next_face ≡ mesh_of_rows scale rows
+  pub made_is : numbered (of_all_rows scale rows) rows.next_vertex rows.next_face ≡ mesh_of_rows scale rows
   made_is = λ i. record { points = points_are i; faces = faces_are i; solid = solids_are i; next_vertex = rows.next_vertex; next_face = rows.next_face; limits = limits_are i }

@@ -20,7 +20,7 @@ use Rattle.mesh_rows.specs.declared.faults.RowsFault.TheVariants.{VertexOrder, F
 use Rattle.mesh_rows.specs.declared.faults.RowsFault.TheVariants.{NotSolid, Unbalanced}
 use Rattle.mesh_rows.specs.declared.faults.RowsRefusal.{RowsRefusal}
 use Rattle.mesh_rows.specs.declared.faults.RowsRefusal.TheVariants.{NoMemory, Fault}
-use Rattle.mesh_rows.specs.Making.{with_vertex_row, with_face_row, empty_under, of_vertices, of_faces, made_of}
+use Rattle.mesh_rows.specs.Making.{with_vertex_row, with_face_row, empty_under, of_vertices, of_faces, of_all_rows}
 
 -- ---- numbers
 
@@ -128,7 +128,7 @@ made_fault scale rows =
     option_or (vertices_fault rows.next_vertex 1 (empty_under scale) rows.vertices)
     (option_or (faces_fault rows.next_face 1 (of_vertices scale rows) rows.faces)
     (option_or (solids_fault 0 (of_faces scale rows) rows.solids)
-    (balance_fault (made_of scale rows) rows.faces)))
+    (balance_fault (of_all_rows scale rows) rows.faces)))
 
 -- The first fault of rows, in this order: the numbers, the vertices, the faces and the solid
 -- vertices row by row, a side. None exactly where a mesh of the scale can be made.

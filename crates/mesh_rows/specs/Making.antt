@@ -46,5 +46,5 @@ abbrev pub of_faces : Scale → MeshRows → Mesh
 of_faces scale rows = with_face_rows (of_vertices scale rows) rows.faces
 
 -- that with the fixed (solid) vertices
-abbrev pub made_of : Scale → MeshRows → Mesh
-made_of scale rows = with_solids (of_faces scale rows) rows.solids
+abbrev pub of_all_rows : Scale → MeshRows → Mesh
+of_all_rows scale rows = with_solids (of_faces scale rows) rows.solids

@@ -6,7 +6,7 @@ ghost use Rattle.mesh_base.specs.Sides.{IsClosed};
 ghost use Rattle.half_mesh.specs.Half.{mesh_in};
 ghost use Rattle.mesh_journal.specs.Journal.{mesh_in as journal_mesh_in, kept_in};
 ghost use Rattle.mesh_rows.specs.Rows.{mesh_of_rows};
-ghost use Rattle.mesh_rows.specs.Making.{with_vertex_row, with_vertex_rows, with_face_row, with_face_rows, with_solids, empty_under, made_of};
+ghost use Rattle.mesh_rows.specs.Making.{with_vertex_row, with_vertex_rows, with_face_row, with_face_rows, with_solids, empty_under, of_all_rows};
 ghost use Rattle.mesh_rows.specs.Faults.{is_next, may_have, limits_fault, vertices_fault, face_fault, faces_fault, solids_fault, made_fault, rows_fault, IsRefusal};
 
 use crate::balance::balance_fault;
@@ -149,7 +149,7 @@ fn put_rows(
     requires limits { limits_fault scale rows.now ≡ None }
     requires empty { mesh_in mesh.old ≡ empty_under scale }
     ensures fault { IfOk result (λ fault. fault ≡ made_fault scale rows.now) }
-    ensures put { result ≡ Ok None → mesh_in mesh.new ≡ made_of scale rows.now }
+    ensures put { result ≡ Ok None → mesh_in mesh.new ≡ of_all_rows scale rows.now }
     ensures vertex { result ≡ Ok None → (mesh_in mesh.new).next_vertex ≤ rows.now.next_vertex }
     ensures face { result ≡ Ok None → (mesh_in mesh.new).next_face ≤ rows.now.next_face }
 {

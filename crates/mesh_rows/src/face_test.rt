@@ -3,7 +3,7 @@ ghost use Rattle.std.specs.Prelude.{◌≡◌, slice_get};
 ghost use Rattle.mesh_base.specs.Mesh.{equal_up_to_rotation};
 ghost use Rattle.mesh_base.specs.Sides.{faces_running};
 ghost use Rattle.mesh_plain.specs.Shape.{repeats};
-ghost use Rattle.mesh_rows.specs.Search.{picked};
+ghost use Rattle.mesh_rows.specs.Search.{pick};
 ghost use Rattle.mesh_rows.specs.Faults.{no_corner, has_corners_at, equal_face, corners_fault, face_fault};
 
 use crate::faults::RowsFault;
@@ -56,7 +56,7 @@ fn has_corners_at<S: Surface>(mesh: &S, c: &Corners, f: FaceId) -> bool
 fn equal_nth<S: Surface>(mesh: &S, c: &Corners, nth: u32) -> Option<FaceId>
     ensures { let m = S.mesh mesh.now in
         let nth_face = slice_get (faces_running m c.now.first c.now.second) nth in
-        result ≡ picked (has_corners_at m c.now) nth_face }
+        result ≡ pick (has_corners_at m c.now) nth_face }
 {
     let f = mesh.run_face(c.first, c.second, nth)?;
     if has_corners_at(mesh, c, f) {

@@ -34,7 +34,7 @@ pub enum RowsFault {
 }
 
 /// Why no mesh is made of rows.
-#[derive(Clone, Copy, Debug, PartialEq, Eq)]
+#[derive(Clone, Copy)]
 pub enum RowsRefusal {
     /// There was no memory, and nothing is said of the rows.
     NoMemory,

@@ -3,14 +3,14 @@ use grid_base::{Items, Point};
 use mesh_base::{Corners, FaceId, Ids, VertexId};
 
 /// A vertex, by its id, and where it stands.
-#[derive(Clone, Copy, Debug, PartialEq, Eq)]
+#[derive(Clone, Copy)]
 pub struct VertexRow {
     pub id: VertexId,
     pub at: Point,
 }
 
 /// A face, by its id, and its corners.
-#[derive(Clone, Copy, Debug, PartialEq, Eq)]
+#[derive(Clone, Copy)]
 pub struct FaceRow {
     pub id: FaceId,
     pub corners: Corners,

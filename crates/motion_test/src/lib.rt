@@ -15,7 +15,7 @@ ghost use Rattle.std.specs.Prelude.{◌≡◌, ◌↔◌, ◌≤◌, IsTrue};
 ghost use Rattle.grid_base.specs.Meeting.{AreWithin};
 ghost use Rattle.grid_base.specs.Motion.{NeverMeet, NeverMeetAfterStart, NeverMeetBeforeEnd};
 ghost use Rattle.grid_base.specs.Separation.{AreSeparated, MoveTogether, Passes, Opens, Closes};
-ghost use Rattle.motion_test.specs.Pairs.{positions_of};
+ghost use Rattle.motion_test.specs.Pairs.{positions_of, start_of, end_of};
 
 pub use axes::axis_keeps_apart;
 pub use bisection::{double, middle};
@@ -28,7 +28,7 @@ pub use one_direction::{brings_together, keeps_apart, takes_apart};
 /// An edge and a triangle that move in straight lines. At the start and at the end it has five
 /// positions: the edge's two ends, and then the triangle's three corners. They are in half units,
 /// up to `HALF_MAX`.
-#[derive(Clone, Copy, Debug, PartialEq, Eq)]
+#[derive(Clone, Copy)]
 pub struct Pair {
     /// The positions at the start.
     pub start: [Wide; 5],
@@ -42,11 +42,10 @@ pub struct Pair {
 /// El Topo (Brochu and Bridson 2009).
 pub fn separated(p: &Pair, depth: u8) -> bool
     requires depth_fits { depth ≤ DEPTH_MAX }
-    requires start_fits { AreWithin HALF_MAX (positions_of p.now.start) }
-    requires end_fits { AreWithin HALF_MAX (positions_of p.now.end) }
-    ensures exact { IsTrue result ↔
-        AreSeparated depth (positions_of p.now.start) (positions_of p.now.end) }
-    ensures clear { IsTrue result → NeverMeet (positions_of p.now.start) (positions_of p.now.end) }
+    requires start_fits { AreWithin HALF_MAX (start_of p.now) }
+    requires end_fits { AreWithin HALF_MAX (end_of p.now) }
+    ensures exact { IsTrue result ↔ AreSeparated depth (start_of p.now) (end_of p.now) }
+    ensures clear { IsTrue result → NeverMeet (start_of p.now) (end_of p.now) }
 {
     separated_at(&positions(&p.start), &positions(&p.end), depth, true, true)
 }
@@ -55,11 +54,10 @@ pub fn separated(p: &Pair, depth: u8) -> bool
 /// and do not meet at the start. Then it meets at no fraction of the motion.
 pub fn passes(p: &Pair, depth: u8) -> bool
     requires depth_fits { depth ≤ DEPTH_MAX }
-    requires start_fits { AreWithin HALF_MAX (positions_of p.now.start) }
-    requires end_fits { AreWithin HALF_MAX (positions_of p.now.end) }
-    ensures exact { IsTrue result ↔
-        Passes depth (positions_of p.now.start) (positions_of p.now.end) }
-    ensures clear { IsTrue result → NeverMeet (positions_of p.now.start) (positions_of p.now.end) }
+    requires start_fits { AreWithin HALF_MAX (start_of p.now) }
+    requires end_fits { AreWithin HALF_MAX (end_of p.now) }
+    ensures exact { IsTrue result ↔ Passes depth (start_of p.now) (end_of p.now) }
+    ensures clear { IsTrue result → NeverMeet (start_of p.now) (end_of p.now) }
 {
     passes_at(p, depth)
 }
@@ -69,12 +67,10 @@ pub fn passes(p: &Pair, depth: u8) -> bool
 /// separated, with one depth less. Then it meets at no fraction above zero.
 pub fn opens(p: &Pair, depth: u8) -> bool
     requires depth_fits { depth ≤ DEPTH_MAX }
-    requires start_fits { AreWithin HALF_MAX (positions_of p.now.start) }
-    requires end_fits { AreWithin HALF_MAX (positions_of p.now.end) }
-    ensures exact { IsTrue result ↔
-        Opens depth (positions_of p.now.start) (positions_of p.now.end) }
-    ensures clear { IsTrue result →
-        NeverMeetAfterStart (positions_of p.now.start) (positions_of p.now.end) }
+    requires start_fits { AreWithin HALF_MAX (start_of p.now) }
+    requires end_fits { AreWithin HALF_MAX (end_of p.now) }
+    ensures exact { IsTrue result ↔ Opens depth (start_of p.now) (end_of p.now) }
+    ensures clear { IsTrue result → NeverMeetAfterStart (start_of p.now) (end_of p.now) }
 {
     opens_at(&positions(&p.start), &positions(&p.end), depth, true)
 }
@@ -83,12 +79,10 @@ pub fn opens(p: &Pair, depth: u8) -> bool
 /// fraction below one.
 pub fn closes(p: &Pair, depth: u8) -> bool
     requires depth_fits { depth ≤ DEPTH_MAX }
-    requires start_fits { AreWithin HALF_MAX (positions_of p.now.start) }
-    requires end_fits { AreWithin HALF_MAX (positions_of p.now.end) }
-    ensures exact { IsTrue result ↔
-        Closes depth (positions_of p.now.start) (positions_of p.now.end) }
-    ensures clear { IsTrue result →
-        NeverMeetBeforeEnd (positions_of p.now.start) (positions_of p.now.end) }
+    requires start_fits { AreWithin HALF_MAX (start_of p.now) }
+    requires end_fits { AreWithin HALF_MAX (end_of p.now) }
+    ensures exact { IsTrue result ↔ Closes depth (start_of p.now) (end_of p.now) }
+    ensures clear { IsTrue result → NeverMeetBeforeEnd (start_of p.now) (end_of p.now) }
 {
     opens_at(&positions(&p.end), &positions(&p.start), depth, true)
 }
@@ -97,9 +91,9 @@ pub fn closes(p: &Pair, depth: u8) -> bool
 // the start, so it is asked for no direction.
 fn passes_at(p: &Pair, depth: u8) -> bool
     requires depth_fits { depth ≤ DEPTH_MAX }
-    requires start_fits { AreWithin HALF_MAX (positions_of p.now.start) }
-    requires end_fits { AreWithin HALF_MAX (positions_of p.now.end) }
-    ensures { IsTrue result ↔ Passes depth (positions_of p.now.start) (positions_of p.now.end) }
+    requires start_fits { AreWithin HALF_MAX (start_of p.now) }
+    requires end_fits { AreWithin HALF_MAX (end_of p.now) }
+    ensures { IsTrue result ↔ Passes depth (start_of p.now) (end_of p.now) }
 {
     let s = positions(&p.start);
     let t = positions(&p.end);

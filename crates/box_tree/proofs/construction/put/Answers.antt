@@ -1,6 +1,6 @@
 use Rattle.std.proofs.Common.{◌≡◌, ◌∙◌, ◌+◌, ◌-◌, ◌<◌, ◌++◌, length, get_or, take, reverse, sym, ap, arith}
 use Rattle.std.specs.List.{filter_map}
-use Rattle.box_tree.specs.Nodes.{entries, placed}
+use Rattle.box_tree.specs.Nodes.{entries, entry_at}
 use Rattle.box_tree.proofs.Trees.{item_tree, item_entries}
 use Rattle.box_tree.proofs.Placing.{put_some, put_none}
 use Rattle.box_tree.proofs.construction.put.Goals as goal
@@ -16,7 +16,7 @@ loop-k-preserved-in-Continue-1 c =
     record {
       within = omega arith;
       tree = item_tree old new c.in-Some.bound item c.in_ok-push.ensures.items c.loop-k.invariant.tree;
-      all = ap (λ xs. filter_map (placed c.args.boxes.now) (take (k - 1) c.args.order.now) ++ xs) (item_entries old new c.in-Some.bound item c.in_ok-push.ensures.items)
+      all = ap (λ xs. filter_map (entry_at c.args.boxes.now) (take (k - 1) c.args.order.now) ++ xs) (item_entries old new c.in-Some.bound item c.in_ok-push.ensures.items)
           ∙ put_some c.args.boxes.now c.args.order.now k (k - 1) one inside c.in-Some.bound (entries (reverse old)) (sym c.in-Some.ensures) ∙ c.loop-k.invariant.all;
     }
 

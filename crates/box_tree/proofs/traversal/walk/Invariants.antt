@@ -1,12 +1,12 @@
 use Rattle.std.proofs.Common.{◌≡◌, ◌++◌, ◌≤◌, length, reverse, take}
-use Rattle.box_tree.specs.Nodes.{IsTree, entries, meeting}
+use Rattle.box_tree.specs.Nodes.{IsTree, entries, items_found}
 use Rattle.box_tree.proofs.traversal.walk.Given as goal
 
 abbrev pub invariant-loop-i : goal.invariant-loop-i
 invariant-loop-i l = record {
   within : l.i ≤ length l.nodes;
   tree : IsTree (reverse (take l.i l.nodes));
-  all : l.into.items ++ meeting l.q (entries (reverse (take l.i l.nodes))) ≡ l.fn.into.items ++ meeting l.q (entries (reverse l.nodes));
+  all : l.into.items ++ items_found l.q (entries (reverse (take l.i l.nodes))) ≡ l.fn.into.items ++ items_found l.q (entries (reverse l.nodes));
 }
 
 abbrev pub decreases-loop-i : goal.decreases-loop-i

@@ -32,6 +32,6 @@ loop-step-preserved g c =
     let ids = ap (λ y. y.id) c.index-items-high.is in
     record {
       inside = omega (arith, inside);
-      some = c.grown-step.ensures;
+      some = c.next_step-step.ensures;
       over = over_down c.args.id place place xs c.index-items-high.result c.requires.rise at (omega (arith, not_less, ids)) (omega arith);
     }

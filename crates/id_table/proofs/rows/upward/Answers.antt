@@ -32,7 +32,7 @@ loop-step-preserved g c =
     let ids = ap (λ y. y.id) c.index-items-low.is in
     record {
       inside = inside;
-      some = c.grown-step.ensures;
+      some = c.next_step-step.ensures;
       below = below_up c.args.id place (place + 1) xs c.index-items-low.result c.requires.rise at (omega (arith, less, ids)) (omega arith);
     }
 

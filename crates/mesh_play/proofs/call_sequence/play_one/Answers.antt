@@ -3,7 +3,7 @@ use Rattle.std.proofs.lemmas.Option.{slice_get_read}
 use Rattle.std.proofs.lemmas.Result.{on_ok_weaker}
 use Rattle.std.proofs.lemmas.List.{length-map}
 use Rattle.mesh_base.specs.declared.marks.Mark.{Mark}
-use Rattle.mesh_play.specs.Play.{stood_for}
+use Rattle.mesh_play.specs.Play.{mesh_at_mark}
 use Rattle.mesh_play.proofs.PlayMarks.{same_played, marked_along, marks_along, marked_made, marks_made, marked_back, marks_back, mesh_back}
 use Rattle.mesh_play.proofs.call_sequence.play_one.Goals as goal
 
@@ -30,7 +30,7 @@ pub returns-in-BackTo-clause-after : goal.returns-in-BackTo-clause-after
 returns-in-BackTo-clause-after g c =
     let marks = c.args.marks.now.items in
     let inside = rw c.in-BackTo.is at c.requires.lawful in
-    let here : slice_get marks c.in-BackTo.nth ≡ Some c.index-mark.result.now = slice_get_read marks (length marks) c.in-BackTo.nth c.index-mark.result.now refl (omega (arith, inside, length-map marks (λ (k : Mark). stood_for (g.S.Surface.kept c.args.surface.now) k))) c.index-mark.ensures in
+    let here : slice_get marks c.in-BackTo.nth ≡ Some c.index-mark.result.now = slice_get_read marks (length marks) c.in-BackTo.nth c.index-mark.result.now refl (omega (arith, inside, length-map marks (λ (k : Mark). mesh_at_mark (g.S.Surface.kept c.args.surface.now) k))) c.index-mark.ensures in
     rw (c.in-BackTo.is, c.truncate.ensures.items)
     (same_played _ _ _ _ (mesh_back _ marks c.in-BackTo.nth c.index-mark.result.now _ _ here c.back_to.ensures.mesh) (marked_back g.S.Surface.beyond _ _ marks c.in-BackTo.nth c.index-mark.result.now c.requires.marks here c.back_to.ensures.marks))
 
@@ -38,5 +38,5 @@ pub returns-in-BackTo-clause-marks : goal.returns-in-BackTo-clause-marks
 returns-in-BackTo-clause-marks g c =
     let marks = c.args.marks.now.items in
     let inside = rw c.in-BackTo.is at c.requires.lawful in
-    let here : slice_get marks c.in-BackTo.nth ≡ Some c.index-mark.result.now = slice_get_read marks (length marks) c.in-BackTo.nth c.index-mark.result.now refl (omega (arith, inside, length-map marks (λ (k : Mark). stood_for (g.S.Surface.kept c.args.surface.now) k))) c.index-mark.ensures in
+    let here : slice_get marks c.in-BackTo.nth ≡ Some c.index-mark.result.now = slice_get_read marks (length marks) c.in-BackTo.nth c.index-mark.result.now refl (omega (arith, inside, length-map marks (λ (k : Mark). mesh_at_mark (g.S.Surface.kept c.args.surface.now) k))) c.index-mark.ensures in
     rw c.truncate.ensures.items (marks_back g.S.Surface.beyond _ _ marks c.in-BackTo.nth c.index-mark.result.now c.requires.marks here c.back_to.ensures.marks)

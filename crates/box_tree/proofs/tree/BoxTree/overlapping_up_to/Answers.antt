@@ -3,7 +3,7 @@ use Rattle.std.specs.FinMap as map
 use Rattle.cell_grid.specs.Filed.{has}
 use Rattle.grid_base.specs.declared.Extent.{Extent}
 use Rattle.box_tree.specs.declared.question.Question.{Question}
-use Rattle.box_tree.specs.Nodes.{entries, meeting}
+use Rattle.box_tree.specs.Nodes.{entries, items_found}
 use Rattle.box_tree.proofs.Answered.{added_alone, answer_is, as_many, apart_from_none, none_is_few}
 use Rattle.box_tree.proofs.tree.BoxTree.overlapping_up_to.Goals as goal
 
@@ -29,6 +29,6 @@ returns-in-Ok-false-clause-more c t =
     let ns = c.self.inside.nodes.items in
     let ask : Extent → Question = λ at. record { at = at; a = 0; b = 0 } in
     let m = map.from_entries (entries (reverse ns)) in
-    let found = added_alone ask c.args.at c.of-at.result ns c.deref.result.now c.clear.new.self.items (c.clear.new.self.items ++ meeting (ask c.of-at.result) (entries (reverse c.deref.result.now))) refl c.clear.ensures.items c.of-at.ensures c.deref.ensures.value in
+    let found = added_alone ask c.args.at c.of-at.result ns c.deref.result.now c.clear.new.self.items (c.clear.new.self.items ++ items_found (ask c.of-at.result) (entries (reverse c.deref.result.now))) refl c.clear.ensures.items c.of-at.ensures c.deref.ensures.value in
     let same = ap length found ∙ as_many (ask c.args.at) (entries (reverse ns)) c.self.invariant.1 ∙ ap length (apart_from_none m c.args.at) in
     rw (← c.self.view_is) (subst (λ n. c.args.most < n) same (c.in-Ok-false.ensures.more c.in-Ok-false.field-0-test))

@@ -3,10 +3,10 @@ use Rattle.std.specs.FinMap as finite
 use Rattle.half_mesh.specs.declared.row.Row.{Row}
 use Rattle.id_table.specs.Stock.{Stock}
 use Rattle.half_mesh.specs.Ground.{Ground}
-use Rattle.half_mesh.specs.Mapped.{mapped}
+use Rattle.half_mesh.specs.Mapped.{map_values}
 use Rattle.half_mesh.specs.Walks.{woven_of}
 use Rattle.half_mesh.proofs.Grounds.{ground_same, buried_there}
-use Rattle.half_mesh.proofs.Mapped.{mapped-empty}
+use Rattle.half_mesh.proofs.Mapped.{map_values-empty}
 use Rattle.half_mesh.proofs.Fanned.{no_row}
 use Rattle.half_mesh.proofs.fans.Fans.forget.Goals as goal
 
@@ -20,5 +20,5 @@ invariant_of-self c = rw (ap (λ (x : Stock Row). x.live) c.forget.ensures.kept)
 pub returns-clause-kept : goal.returns-clause-kept
 returns-clause-kept c = ground_same _ _ _ _ _ _
     (ap (λ (x : Stock Row). woven_of x.live c.self.inside.halves) c.forget.ensures.kept ∙ ap (λ (x : Ground). x.woven) c.self.view_is)
-    (ap (λ (x : Stock Row). mapped (λ (r : Row). r.vertex) x.buried) c.forget.ensures.kept ∙ mapped-empty (λ (r : Row). r.vertex))
+    (ap (λ (x : Stock Row). map_values (λ (r : Row). r.vertex) x.buried) c.forget.ensures.kept ∙ map_values-empty (λ (r : Row). r.vertex))
     refl

@@ -4,7 +4,7 @@ use Rattle.slab.specs.Slab.{get}
 use Rattle.half_mesh.specs.Ground.{Ground}
 use Rattle.half_mesh.specs.Fans.{Side, IsOutside}
 use Rattle.half_mesh.specs.Walks.{side_of, fan_of, woven_of}
-use Rattle.half_mesh.proofs.Mapped.{mapped-alike}
+use Rattle.half_mesh.proofs.Mapped.{map_values-alike}
 use Rattle.half_mesh.proofs.SidesAt.{side_at-woven, half-of}
 use Rattle.half_mesh.proofs.Fanned.{spokes_at-row}
 use Rattle.half_mesh.proofs.Freed.{fanned-outside, fan-outside}
@@ -20,7 +20,7 @@ invariant_of-self c = λ v row there.
 pub returns-clause-fans : goal.returns-clause-fans
 returns-clause-fans c =
     let s = c.self.inside.halves in
-    mapped-alike (fan_of s) (fan_of c.free_half.new.halves) c.self.inside.rows.live (λ v row there.
+    map_values-alike (fan_of s) (fan_of c.free_half.new.halves) c.self.inside.rows.live (λ v row there.
     let g = c.self.invariant v row there in
     let out = subst (IsOutside c.args.face) (spokes_at-row c.self.inside.rows.live s c.args.self.now.woven v row g (ap (λ (x : Ground). x.woven) c.self.view_is) (sym there)) (c.requires v) in
     fan-outside s c.free_half.new.halves v c.args.face row c.free_half.ensures.others g out)

@@ -2,7 +2,7 @@ use Rattle.std.proofs.Common.{◌≡◌, ap, sym, ◌∙◌, is_some}
 use Rattle.half_mesh.specs.declared.row.Row.{Row}
 use Rattle.half_mesh.specs.Walks.{fan_of, woven_of}
 use Rattle.std.specs.FinMap as finite
-use Rattle.half_mesh.specs.Mapped.{mapped}
+use Rattle.half_mesh.specs.Mapped.{map_values}
 use Rattle.half_mesh.proofs.Grounds.{ground_same}
 use Rattle.half_mesh.specs.Fans.{Fan, Woven}
 use Rattle.half_mesh.specs.Ground.{Ground}
@@ -29,7 +29,7 @@ returns-in-Some c = λ fan is.
     ap (λ (x : Stock Row). woven_of x.live s) c.set.ensures
     ∙ ap (λ fans. record (woven_of c.self.inside.rows.live s) { fans = fans }) (woven-insert c.self.inside.rows.live s s c.args.v moved (record fan { vertex = c.args.vertex }) c.self.invariant (ap (λ (f : Fan). record { vertex = c.args.vertex; spokes = f.spokes }) was) (λ q apart k h there of_q. there))
     ∙ ap (λ (w : Woven). record w { fans = finite.insert w.fans c.args.v (record fan { vertex = c.args.vertex }) }) (ap (λ (x : Ground). x.woven) c.self.view_is))
-    (ap (λ (x : Stock Row). mapped (λ r. r.vertex) x.buried) c.set.ensures ∙ ap (λ (x : Ground). x.buried) c.self.view_is)
+    (ap (λ (x : Stock Row). map_values (λ r. r.vertex) x.buried) c.set.ensures ∙ ap (λ (x : Ground). x.buried) c.self.view_is)
     (ap (λ (x : Stock Row). x.room) c.set.ensures ∙ ap (λ (x : Ground). x.seats) c.self.view_is)
 
 pub returns-in_default : goal.returns-in_default

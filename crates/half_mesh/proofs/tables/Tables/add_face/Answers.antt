@@ -10,7 +10,7 @@ use Rattle.half_mesh.specs.Tied.{Keys, AreTied, AreRings, woven_mesh, corners_at
 use Rattle.half_mesh.specs.Fans.{side_at}
 use Rattle.half_mesh.proofs.Ledgers.{SidesStay, rings-stay, faces-stay, state_same, buried_same}
 use Rattle.half_mesh.specs.Vertices.{points_in, solid_in}
-use Rattle.half_mesh.proofs.Mapped.{len-mapped}
+use Rattle.half_mesh.proofs.Mapped.{len-map_values}
 use Rattle.half_mesh.proofs.TiedLaws.{dead_key}
 use Rattle.half_mesh.proofs.FaceChanges.{tied-room, mesh-room, have_fans, newest-tied, few-tied, faces_below, tied-with_face, faces-with_face, insert_twice}
 use Rattle.half_mesh.specs.States.{Ledger}
@@ -80,7 +80,7 @@ pub insert-requires : goal.insert-requires
 insert-requires c =
     let i = c.self.inside in
     let next = ap (λ (m : Mesh). m.next_face) (ap (λ (x : Ledger). x.state.mesh) c.self.view_is) in
-    let long = len-mapped (corners_at i.fans.woven.sides) i.keys.live in
+    let long = len-map_values (corners_at i.fans.woven.sides) i.keys.live in
     let same = ap (λ (m : Mesh). finite.len m.faces) (ap (λ (x : Ledger). x.state.mesh) c.self.view_is) in
     let few = c.requires.few in
     record {

@@ -2,7 +2,7 @@ use Rattle.std.proofs.Common.{false, refl, ap, sym, ◌∙◌, ◌+◌, arith}
 use Rattle.std.specs.FinMap as finite
 use Rattle.mesh_base.specs.Mesh.{Mesh}
 use Rattle.half_mesh.specs.Ground.{Ground}
-use Rattle.half_mesh.specs.Fans.{bare}
+use Rattle.half_mesh.specs.Fans.{bare_fan}
 use Rattle.half_mesh.proofs.Vertices.{len-points}
 use Rattle.half_mesh.proofs.VertexChanges.{mesh-vertex_made}
 use Rattle.half_mesh.proofs.TiedLaws.{tied-fan, dead_spokes, dead_fan}
@@ -19,7 +19,7 @@ invariant_of-self-2 c =
     let none = dead_spokes i.fans.woven i.keys.live i.limits i.next_vertex i.next_face c.args.self.now.state.mesh i.next_vertex (ap (λ (x : Ledger). x.state.mesh) c.self.view_is) (λ live. let b = c.requires.ids i.next_vertex live in omega arith) in
     let woven = ap (λ (x : Ground). x.woven) c.in_ok-add.ensures.ok in
     record {
-      live = rw woven (tied-fan i.fans.woven i.keys.live i.next_vertex (bare (record { point = c.args.p; solid = false })) c.self.invariant.live (sym none));
+      live = rw woven (tied-fan i.fans.woven i.keys.live i.next_vertex (bare_fan (record { point = c.args.p; solid = false })) c.self.invariant.live (sym none));
       buried = rw woven c.self.invariant.buried;
     }
 

@@ -7,9 +7,9 @@ use Rattle.id_table.specs.Stock.{Stock}
 use Rattle.half_mesh.specs.States.{Ledger, bury_face}
 use Rattle.half_mesh.specs.Vertices.{points_in, solid_in}
 use Rattle.half_mesh.specs.Tied.{AreTied, AreRings, woven_mesh, corners_at, faces_in}
-use Rattle.half_mesh.proofs.Mapped.{get-mapped, mapped-insert}
+use Rattle.half_mesh.proofs.Mapped.{get-map_values, map_values-insert}
 use Rattle.half_mesh.proofs.FaceChanges.{have_fans, tied-without_face, faces-without_face}
-use Rattle.half_mesh.proofs.StateLaws.{carried-some}
+use Rattle.half_mesh.proofs.StateLaws.{carry-some}
 use Rattle.half_mesh.proofs.Ledgers.{SidesStay, rings-stay, faces-stay, rings-more, state_same, buried_same}
 use Rattle.half_mesh.proofs.tables.Tables.bury_face.Goals as goal
 
@@ -19,7 +19,7 @@ bury_ring-requires-clause-different c =
     let f = c.f.inside.0 in
     let r = c.corners_from-a.result in
     let corners : Corners = record { first = r.0; second = r.1; third = r.2 } in
-    let there : finite.get (faces_in i.fans.woven.sides i.keys.live) f ≡ Some corners = get-mapped (corners_at i.fans.woven.sides) i.keys.live f ∙ ap (option_map (corners_at i.fans.woven.sides)) (sym c.in-Some.ensures) ∙ ap Some (sym c.corners_from-a.ensures) in
+    let there : finite.get (faces_in i.fans.woven.sides i.keys.live) f ≡ Some corners = get-map_values (corners_at i.fans.woven.sides) i.keys.live f ∙ ap (option_map (corners_at i.fans.woven.sides)) (sym c.in-Some.ensures) ∙ ap Some (sym c.corners_from-a.ensures) in
     let at : finite.get c.args.self.now.state.mesh.faces f ≡ Some corners = sym (ap (λ (x : Ledger). finite.get x.state.mesh.faces f) c.self.view_is) ∙ there in
     c.requires.sound.is_mesh.different_corners f corners at
 
@@ -29,7 +29,7 @@ bury_ring-requires-clause-live c =
     let f = c.f.inside.0 in
     let r = c.corners_from-a.result in
     let corners : Corners = record { first = r.0; second = r.1; third = r.2 } in
-    let there : finite.get (faces_in i.fans.woven.sides i.keys.live) f ≡ Some corners = get-mapped (corners_at i.fans.woven.sides) i.keys.live f ∙ ap (option_map (corners_at i.fans.woven.sides)) (sym c.in-Some.ensures) ∙ ap Some (sym c.corners_from-a.ensures) in
+    let there : finite.get (faces_in i.fans.woven.sides i.keys.live) f ≡ Some corners = get-map_values (corners_at i.fans.woven.sides) i.keys.live f ∙ ap (option_map (corners_at i.fans.woven.sides)) (sym c.in-Some.ensures) ∙ ap Some (sym c.corners_from-a.ensures) in
     let at : finite.get c.args.self.now.state.mesh.faces f ≡ Some corners = sym (ap (λ (x : Ledger). finite.get x.state.mesh.faces f) c.self.view_is) ∙ there in
     have_fans i.fans.woven i.keys.live i.limits i.next_vertex i.next_face c.args.self.now.state.mesh corners (ap (λ (x : Ledger). x.state.mesh) c.self.view_is) (c.requires.sound.is_mesh.live_corners f corners at)
 
@@ -41,7 +41,7 @@ invariant_of-self c =
     let corners : Corners = record { first = r.0; second = r.1; third = r.2 } in
     let key = c.in-Some.key in
     let held : finite.get i.keys.live f ≡ Some key = sym c.in-Some.ensures in
-    let there : finite.get (faces_in i.fans.woven.sides i.keys.live) f ≡ Some corners = get-mapped (corners_at i.fans.woven.sides) i.keys.live f ∙ ap (option_map (corners_at i.fans.woven.sides)) held ∙ ap Some (sym c.corners_from-a.ensures) in
+    let there : finite.get (faces_in i.fans.woven.sides i.keys.live) f ≡ Some corners = get-map_values (corners_at i.fans.woven.sides) i.keys.live f ∙ ap (option_map (corners_at i.fans.woven.sides)) held ∙ ap Some (sym c.corners_from-a.ensures) in
     let last = c.bury_ring.new.fans.woven in
     let down = c.bury.ensures key held in
     record {
@@ -57,7 +57,7 @@ returns-in-Some-clause-state c =
     let corners : Corners = record { first = r.0; second = r.1; third = r.2 } in
     let key = c.in-Some.key in
     let held : finite.get i.keys.live f ≡ Some key = sym c.in-Some.ensures in
-    let there : finite.get (faces_in i.fans.woven.sides i.keys.live) f ≡ Some corners = get-mapped (corners_at i.fans.woven.sides) i.keys.live f ∙ ap (option_map (corners_at i.fans.woven.sides)) held ∙ ap Some (sym c.corners_from-a.ensures) in
+    let there : finite.get (faces_in i.fans.woven.sides i.keys.live) f ≡ Some corners = get-map_values (corners_at i.fans.woven.sides) i.keys.live f ∙ ap (option_map (corners_at i.fans.woven.sides)) held ∙ ap Some (sym c.corners_from-a.ensures) in
     let sides = i.fans.woven.sides in
     let last = c.bury_ring.new.fans.woven in
     let down = c.bury.ensures key held in
@@ -76,8 +76,8 @@ returns-in-Some-clause-state c =
     (ap points_in below)
     (ap (λ (x : Stock ℕ). faces_in last.sides x.buried) down
     ∙ faces-stay sides last.sides (finite.insert i.keys.buried f key) stay rings
-    ∙ mapped-insert (corners_at sides) (corners_at sides) i.keys.buried f key corners (sym c.corners_from-a.ensures) (λ q z apart at. refl)
-    ∙ sym (carried-some (faces_in sides i.keys.live) (faces_in sides i.keys.buried) f corners there))
+    ∙ map_values-insert (corners_at sides) (corners_at sides) i.keys.buried f key corners (sym c.corners_from-a.ensures) (λ q z apart at. refl)
+    ∙ sym (carry-some (faces_in sides i.keys.live) (faces_in sides i.keys.buried) f corners there))
     (ap solid_in below))
     ∙ ap (λ (x : Ledger). bury_face x.state f) c.self.view_is
     ∙ ap (bury_face c.args.self.now.state) c.f.view_is
@@ -93,7 +93,7 @@ returns-in-Some-clause-spare c =
 pub returns-in_default : goal.returns-in_default
 returns-in_default c =
     let i = c.self.inside in
-    let none : finite.get (faces_in i.fans.woven.sides i.keys.live) c.f.inside.0 ≡ None = get-mapped (corners_at i.fans.woven.sides) i.keys.live c.f.inside.0 ∙ ap (option_map (corners_at i.fans.woven.sides)) (sym c.in_default.ensures) in
+    let none : finite.get (faces_in i.fans.woven.sides i.keys.live) c.f.inside.0 ≡ None = get-map_values (corners_at i.fans.woven.sides) i.keys.live c.f.inside.0 ∙ ap (option_map (corners_at i.fans.woven.sides)) (sym c.in_default.ensures) in
     let gone = ap is_some (sym (ap (λ (x : Ledger). finite.get x.state.mesh.faces c.args.f) c.self.view_is) ∙ ap (finite.get (faces_in i.fans.woven.sides i.keys.live)) (sym c.f.view_is) ∙ none) in
     let live = c.requires.live in
     absurd (cc)

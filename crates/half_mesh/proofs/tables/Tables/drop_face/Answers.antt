@@ -11,7 +11,7 @@ use Rattle.half_mesh.specs.Tied.{AreTied, AreRings, woven_mesh, corners_at, face
 use Rattle.half_mesh.specs.States.{AreApart, Ledger}
 use Rattle.half_mesh.specs.Vertices.{points_in, solid_in}
 use Rattle.half_mesh.proofs.Ledgers.{SidesStay, rings-stay, faces-stay, apart-key, outside-dead, state_same, buried_same}
-use Rattle.half_mesh.proofs.Mapped.{get-mapped}
+use Rattle.half_mesh.proofs.Mapped.{get-map_values}
 use Rattle.half_mesh.proofs.FaceChanges.{have_fans, lost-freed, tied-without_face, faces-without_face}
 use Rattle.half_mesh.proofs.tables.Tables.drop_face.Goals as goal
 
@@ -24,7 +24,7 @@ bury_ring-requires-clause-different c =
     let f = c.f.inside.0 in
     let r = c.corners_from-a.result in
     let corners : Corners = record { first = r.0; second = r.1; third = r.2 } in
-    let there : finite.get (faces_in i.fans.woven.sides i.keys.live) f ≡ Some corners = get-mapped (corners_at i.fans.woven.sides) i.keys.live f ∙ ap (option_map (corners_at i.fans.woven.sides)) (sym c.in-Some.ensures) ∙ ap Some (sym c.corners_from-a.ensures) in
+    let there : finite.get (faces_in i.fans.woven.sides i.keys.live) f ≡ Some corners = get-map_values (corners_at i.fans.woven.sides) i.keys.live f ∙ ap (option_map (corners_at i.fans.woven.sides)) (sym c.in-Some.ensures) ∙ ap Some (sym c.corners_from-a.ensures) in
     let at : finite.get c.args.self.now.state.mesh.faces f ≡ Some corners = sym (ap (λ (x : Ledger). finite.get x.state.mesh.faces f) c.self.view_is) ∙ there in
     c.requires.sound.is_mesh.different_corners f corners at
 
@@ -34,7 +34,7 @@ bury_ring-requires-clause-live c =
     let f = c.f.inside.0 in
     let r = c.corners_from-a.result in
     let corners : Corners = record { first = r.0; second = r.1; third = r.2 } in
-    let there : finite.get (faces_in i.fans.woven.sides i.keys.live) f ≡ Some corners = get-mapped (corners_at i.fans.woven.sides) i.keys.live f ∙ ap (option_map (corners_at i.fans.woven.sides)) (sym c.in-Some.ensures) ∙ ap Some (sym c.corners_from-a.ensures) in
+    let there : finite.get (faces_in i.fans.woven.sides i.keys.live) f ≡ Some corners = get-map_values (corners_at i.fans.woven.sides) i.keys.live f ∙ ap (option_map (corners_at i.fans.woven.sides)) (sym c.in-Some.ensures) ∙ ap Some (sym c.corners_from-a.ensures) in
     let at : finite.get c.args.self.now.state.mesh.faces f ≡ Some corners = sym (ap (λ (x : Ledger). finite.get x.state.mesh.faces f) c.self.view_is) ∙ there in
     have_fans i.fans.woven i.keys.live i.limits i.next_vertex i.next_face c.args.self.now.state.mesh corners (ap (λ (x : Ledger). x.state.mesh) c.self.view_is) (c.requires.sound.is_mesh.live_corners f corners at)
 
@@ -44,7 +44,7 @@ free_ring-requires c = λ v.
     let f = c.f.inside.0 in
     let r = c.corners_from-a.result in
     let corners : Corners = record { first = r.0; second = r.1; third = r.2 } in
-    let there : finite.get (faces_in i.fans.woven.sides i.keys.live) f ≡ Some corners = get-mapped (corners_at i.fans.woven.sides) i.keys.live f ∙ ap (option_map (corners_at i.fans.woven.sides)) (sym c.in-Some.ensures) ∙ ap Some (sym c.corners_from-a.ensures) in
+    let there : finite.get (faces_in i.fans.woven.sides i.keys.live) f ≡ Some corners = get-map_values (corners_at i.fans.woven.sides) i.keys.live f ∙ ap (option_map (corners_at i.fans.woven.sides)) (sym c.in-Some.ensures) ∙ ap Some (sym c.corners_from-a.ensures) in
     let x = c.bury_ring.new.fans.woven in
     let lost = c.bury_ring.ensures.lost in
     outside-dead x (finite.remove i.keys.live f) f v
@@ -57,7 +57,7 @@ invariant_of-self c =
     let f = c.f.inside.0 in
     let r = c.corners_from-a.result in
     let corners : Corners = record { first = r.0; second = r.1; third = r.2 } in
-    let there : finite.get (faces_in i.fans.woven.sides i.keys.live) f ≡ Some corners = get-mapped (corners_at i.fans.woven.sides) i.keys.live f ∙ ap (option_map (corners_at i.fans.woven.sides)) (sym c.in-Some.ensures) ∙ ap Some (sym c.corners_from-a.ensures) in
+    let there : finite.get (faces_in i.fans.woven.sides i.keys.live) f ≡ Some corners = get-map_values (corners_at i.fans.woven.sides) i.keys.live f ∙ ap (option_map (corners_at i.fans.woven.sides)) (sym c.in-Some.ensures) ∙ ap Some (sym c.corners_from-a.ensures) in
     let last = c.free_ring.new.fans.woven in
     let lost = lost-freed i.fans.woven c.bury_ring.new.fans.woven last f corners c.bury_ring.ensures.lost c.free_ring.ensures.fans c.free_ring.ensures.sides in
     let apart : AreApart (ledger_in i.fans i.keys i.limits i.next_vertex i.next_face).state = subst AreApart (sym (ap (λ (x : Ledger). x.state) c.self.view_is)) c.requires.apart in
@@ -97,7 +97,7 @@ returns-in-Some-clause-state c =
 pub returns-in_default : goal.returns-in_default
 returns-in_default c =
     let i = c.self.inside in
-    let none : finite.get (faces_in i.fans.woven.sides i.keys.live) c.f.inside.0 ≡ None = get-mapped (corners_at i.fans.woven.sides) i.keys.live c.f.inside.0 ∙ ap (option_map (corners_at i.fans.woven.sides)) (sym c.in_default.ensures) in
+    let none : finite.get (faces_in i.fans.woven.sides i.keys.live) c.f.inside.0 ≡ None = get-map_values (corners_at i.fans.woven.sides) i.keys.live c.f.inside.0 ∙ ap (option_map (corners_at i.fans.woven.sides)) (sym c.in_default.ensures) in
     let gone = ap is_some (sym (ap (λ m. finite.get m.faces c.args.f) (ap (λ (x : Ledger). x.state.mesh) c.self.view_is)) ∙ ap (finite.get (faces_in i.fans.woven.sides i.keys.live)) (sym c.f.view_is) ∙ none) in
     let live = c.requires.live in
     absurd (cc)

@@ -7,7 +7,7 @@ use Rattle.half_mesh.specs.Fans.{Woven, side_at}
 use Rattle.half_mesh.specs.States.{Ledger, AreApart}
 use Rattle.half_mesh.specs.Vertices.{VertexMap, vertices_in, points_in, solid_in}
 use Rattle.half_mesh.specs.Tied.{AreTied, woven_mesh, ledger_in, corners_at, faces_in}
-use Rattle.half_mesh.proofs.Mapped.{mapped-empty}
+use Rattle.half_mesh.proofs.Mapped.{map_values-empty}
 use Rattle.half_mesh.proofs.Vertices.{solid-empty, point-there}
 use Rattle.half_mesh.proofs.TiedLaws.{dead_key, dead_fan}
 use Rattle.half_mesh.proofs.Rings.{got_some}
@@ -71,6 +71,6 @@ returns-clause-state c =
     state_same _ _ _ _
     ((λ j. record { points = points j; faces = faces j; solid = solid j; limits = i.limits; next_vertex = i.next_vertex; next_face = i.next_face }) ∙ ap (λ (x : Ledger). x.state.mesh) c.self.view_is)
     (buried_same _ _ _ _ _ _
-    (ap points_in none ∙ mapped-empty (λ (x : Vertex). x.point))
-    (ap (λ (x : Stock ℕ). faces_in last.sides x.buried) c.forget.ensures.kept ∙ mapped-empty (corners_at last.sides))
+    (ap points_in none ∙ map_values-empty (λ (x : Vertex). x.point))
+    (ap (λ (x : Stock ℕ). faces_in last.sides x.buried) c.forget.ensures.kept ∙ map_values-empty (corners_at last.sides))
     (ap solid_in none ∙ solid-empty))

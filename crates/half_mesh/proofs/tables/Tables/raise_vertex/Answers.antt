@@ -1,11 +1,11 @@
 use Rattle.std.proofs.Common.{is_some, refl, sym, ap, subst, ◌∙◌, arith}
 use Rattle.half_mesh.specs.Ground.{Ground}
-use Rattle.half_mesh.specs.Fans.{bare}
+use Rattle.half_mesh.specs.Fans.{bare_fan}
 use Rattle.half_mesh.specs.States.{Ledger, AreApart, CanRaiseVertex, raise_vertex}
 use Rattle.half_mesh.specs.declared.row.Vertex.{Vertex}
 use Rattle.half_mesh.specs.Vertices.{points_in, solid_in}
 use Rattle.half_mesh.specs.Tied.{woven_mesh, ledger_in, spare_in, faces_in}
-use Rattle.half_mesh.proofs.Mapped.{mapped-remove}
+use Rattle.half_mesh.proofs.Mapped.{map_values-remove}
 use Rattle.half_mesh.proofs.Vertices.{vertex_there, solid-remove, len-points}
 use Rattle.half_mesh.proofs.VertexChanges.{mesh-vertex_raised}
 use Rattle.half_mesh.proofs.TiedLaws.{tied-fan, dead_fan, dead_spokes}
@@ -39,7 +39,7 @@ invariant_of-self c =
     let spokes = dead_spokes i.fans.woven i.keys.live i.limits i.next_vertex i.next_face (woven_mesh i.fans.woven i.keys.live i.limits i.next_vertex i.next_face) v refl (λ live. let gone = ap is_some none in cc) in
     let woven = ap (λ (y : Ground). y.woven) (c.raise.ensures x.0 x.1) in
     record {
-      live = rw woven (tied-fan i.fans.woven i.keys.live v (bare x.0) c.self.invariant.live (sym spokes));
+      live = rw woven (tied-fan i.fans.woven i.keys.live v (bare_fan x.0) c.self.invariant.live (sym spokes));
       buried = rw woven c.self.invariant.buried;
     }
 
@@ -56,7 +56,7 @@ returns-clause-state c =
     state_same _ _ _ _
     (ap (λ (y : Ground). woven_mesh y.woven i.keys.live i.limits i.next_vertex i.next_face) up ∙ mesh-vertex_raised i.fans.woven i.keys.live i.limits i.next_vertex i.next_face v i.fans.buried x.0 x.1 no_fan)
     (buried_same _ _ _ _ _ _
-    (ap (λ (y : Ground). points_in y.buried) up ∙ mapped-remove (λ (y : Vertex). y.point) i.fans.buried v)
+    (ap (λ (y : Ground). points_in y.buried) up ∙ map_values-remove (λ (y : Vertex). y.point) i.fans.buried v)
     (ap (λ (y : Ground). faces_in y.woven.sides i.keys.buried) up)
     (ap (λ (y : Ground). solid_in y.buried) up ∙ solid-remove i.fans.buried v))
     ∙ ap (λ (y : Ledger). raise_vertex y.state v) c.self.view_is

@@ -2,7 +2,7 @@ use Rattle.std.proofs.Common.{◌<◌, ◌^◌, length, arith}
 use Rattle.std.proofs.lemmas.List.Elements.{All-push, All-same}
 use Rattle.mesh_plain.specs.Turned.{IsSmall}
 use Rattle.mesh_plain.proofs.LeastPair.{keyed_more}
-use Rattle.mesh_plain.proofs.doubled.keyed.Goals as goal
+use Rattle.mesh_plain.proofs.doubled.keyed_faces.Goals as goal
 
 pub loop-f-preserved : goal.loop-f-preserved
 loop-f-preserved c =

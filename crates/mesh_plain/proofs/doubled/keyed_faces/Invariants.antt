@@ -1,7 +1,7 @@
 use Rattle.std.proofs.Common.{◌≡◌, ◌+◌, take, map}
 use Rattle.std.specs.List.{All, enumerate_from}
 use Rattle.mesh_plain.specs.Turned.{key_of, IsSmall}
-use Rattle.mesh_plain.proofs.doubled.keyed.Given as goal
+use Rattle.mesh_plain.proofs.doubled.keyed_faces.Given as goal
 
 -- the faces so far are in the list
 abbrev pub invariant-loop-f : goal.invariant-loop-f

@@ -1,5 +1,5 @@
 use Rattle.id_table.proofs.StoneLaws.{found_at, belongs_at, belongs_last}
-use Rattle.id_table.proofs.rows.sought.Goals as goal
+use Rattle.id_table.proofs.rows.look_up.Goals as goal
 
 pub returns-then-items-likely : goal.returns-then-items-likely
 returns-then-items-likely g c = found_at c.args.items.now c.args.id c.guess-likely.result c.index-items-likely.result c.if-likely-items.true c.index-items-likely.is c.if-items-likely.true
