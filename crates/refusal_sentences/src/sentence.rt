@@ -16,8 +16,8 @@ pub enum Value<'a> {
     Text(&'a str),
     /// A text between quotation marks.
     Quoted(&'a str),
-    /// A face, by its number and its line; 0 where that is not known.
-    Face(u32, u32),
+    /// The line of what stands in front, as ` (line N)`; nothing where it is 0, and so not known.
+    Line(u32),
     /// What the system says of an error.
     Error(Error),
 }
@@ -95,27 +95,21 @@ fn push_error(alloc: Global, said: &mut String, error: Error) -> Result<(), Allo
     said.push_str(told.as_str())
 }
 
-// Adds `face F (line N)`.
-fn push_face(alloc: Global, said: &mut String, face: u32, line: u32) -> Result<(), AllocError> {
-    said.push_str("face ")?;
-    push_number(alloc, said, u64::from(face))?;
-    if line > 0 {
-        said.push_str(" (line ")?;
-        push_number(alloc, said, u64::from(line))?;
-        said.push_str(")")?;
-    }
-    Ok(())
+// Adds the number of a line behind what stands there.
+fn push_line(alloc: Global, said: &mut String, line: u32) -> Result<(), AllocError> {
+    let told = format!(in alloc; " (line {line})")?;
+    said.push_str(told.as_str())
 }
 
 // Adds a value.
 fn push_value(alloc: Global, said: &mut String, value: Value<'_>) -> Result<(), AllocError> {
     match value {
-        Value::Nothing => Ok(()),
+        Value::Nothing | Value::Line(0) => Ok(()),
         Value::Number(number) => push_number(alloc, said, number),
         Value::Float(number) => push_float(alloc, said, number),
         Value::Text(text) => said.push_str(text),
         Value::Quoted(text) => push_quoted(alloc, said, text),
-        Value::Face(face, line) => push_face(alloc, said, face, line),
+        Value::Line(line) => push_line(alloc, said, line),
         Value::Error(error) => push_error(alloc, said, error),
     }
 }

@@ -118,19 +118,25 @@ fn what_is_wrong(
             count, "vertices", limits.vertices, large.vertices,
         ),
         ShapeFault::TooManyFaces { count } => many(count, "faces", limits.faces, large.faces),
-        ShapeFault::NoVertex { face, corner } => Sentence::of_two(
-            "corner {corner} of {face} names no vertex",
+        ShapeFault::NoVertex { face, corner } => Sentence::of_three(
+            "corner {corner} of face {face}{line} names no vertex",
             Value::Number(u64::from(corner)),
-            Value::Face(face, line_of_face(format, bytes, face)),
+            Value::Number(u64::from(face)),
+            Value::Line(line_of_face(format, bytes, face)),
         ),
-        ShapeFault::Repeated { face } => Sentence::of_one(
-            "{face} has one vertex twice",
-            Value::Face(face, line_of_face(format, bytes, face)),
+        ShapeFault::Repeated { face } => Sentence::of_two(
+            "face {face}{line} has one vertex twice",
+            Value::Number(u64::from(face)),
+            Value::Line(line_of_face(format, bytes, face)),
         ),
-        ShapeFault::Doubled { first, second } => Sentence::of_two(
-            "{first} and {second} have the same corners in the same order",
-            Value::Face(first, line_of_face(format, bytes, first)),
-            Value::Face(second, line_of_face(format, bytes, second)),
+        ShapeFault::Doubled { first, second } => Sentence::of_four(
+            "face {first}{line} and face {second}{line} have the same corners in the same order",
+            [
+                Value::Number(u64::from(first)),
+                Value::Line(line_of_face(format, bytes, first)),
+                Value::Number(u64::from(second)),
+                Value::Line(line_of_face(format, bytes, second)),
+            ],
         ),
         ShapeFault::Unbalanced { from, to } => Sentence::of_two(
             "the surface is not closed between the vertices {from} and {to}",

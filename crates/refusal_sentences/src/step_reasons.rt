@@ -139,15 +139,9 @@ fn what_is_refused(why: UseWhy) -> Sentence<'static> {
     Sentence::of_two(text, Value::Number(u64::from(v)), Value::Number(most))
 }
 
-// `NAME, line N`.
-fn line_of(name: &str, line: u32) -> Sentence<'_> {
-    let line = Value::Number(u64::from(line));
-    Sentence::of_two("{name}, line {line}", Value::Text(name), line)
-}
-
 /// Says why a directive is refused, by its line.
 pub fn use_reason(alloc: Global, name: &str, line: u32, why: UseWhy) -> Result<String, AllocError> {
-    told(alloc, &[line_of(name, line), what_is_refused(why)])
+    told(alloc, &[place(name, line, &[]), what_is_refused(why)])
 }
 
 /// Says that a directive is refused since an edit has taken its vertex away, and by which line of the log where that is known.
@@ -165,5 +159,5 @@ pub fn gone_reason(
             "there is no vertex {v} any more: an edit has taken it away with the faces that it had",
     };
     let (v, by) = (Value::Number(u64::from(v)), Value::Number(by.unwrap_or(0)));
-    told(alloc, &[line_of(name, line), Sentence::of_two(text, v, by)])
+    told(alloc, &[place(name, line, &[]), Sentence::of_two(text, v, by)])
 }

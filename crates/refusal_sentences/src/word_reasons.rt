@@ -4,11 +4,8 @@ use line_text::spelled_number;
 use std::alloc::{AllocError, Global};
 
 // Whether a word may name a file: it is not empty and has no dash in front.
-fn is_file_word(word: &[u8]) -> bool {
-    match word {
-        [] => false,
-        [first, ..] => *first != b'-',
-    }
+fn is_file_word(word: &str) -> bool {
+    !word.is_empty() && !word.starts_with('-')
 }
 
 // Whether the ending of a name picks a format.
@@ -196,7 +193,7 @@ fn file_fault(wanted: Wanted, before: u64, word: &str) -> Option<Sentence<'_>> {
         let form = Value::Text(wanted.form);
         return Some(Sentence::of_two(text, Value::Quoted(word), form));
     }
-    if !is_file_word(word.as_bytes()) {
+    if !is_file_word(word) {
         return Some(Sentence::of_one(
             "{word} is no name of a file here: it is empty, or has a dash in front",
             Value::Quoted(word),
@@ -218,12 +215,12 @@ fn option_or_file_fault<'a>(
     seen: &mut Seen,
     word: &'a str,
 ) -> Option<Sentence<'a>> {
-    match word.as_bytes() {
-        b"--" => seen.awaited = Awaited::File,
-        b"--large" => return given("--large", &mut seen.large),
-        b"--decimals" => seen.awaited = Awaited::Value(Named::Decimals),
-        b"--only" if wanted.only => seen.awaited = Awaited::Value(Named::Only),
-        [b'-', _, ..] => return Some(unknown(wanted, word)),
+    match word {
+        "--large" => return given("--large", &mut seen.large),
+        "--" => seen.awaited = Awaited::File,
+        "--decimals" => seen.awaited = Awaited::Value(Named::Decimals),
+        "--only" if wanted.only => seen.awaited = Awaited::Value(Named::Only),
+        _ if word.starts_with('-') && word.len() > 1 => return Some(unknown(wanted, word)),
         _ => return file_fault_of(wanted, seen, word),
     }
     None
