@@ -58,7 +58,10 @@ pub fn long_reason(alloc: Global, scale: Scale, name: &str) -> Result<String, Al
         "{name} is too long: a file may have up to {most} bytes"
     };
     let (most, large) = (Value::Number(most as u64), Value::Number(large as u64));
-    told(alloc, &[Sentence::of_three(text, Value::Text(name), most, large)])
+    told(
+        alloc,
+        &[Sentence::of_three(text, Value::Text(name), most, large)],
+    )
 }
 
 /// Says that the file of a card is too long.

@@ -66,7 +66,11 @@ fn corners_in(ahead: &mut Ahead, format: Format, line: &[u8]) -> u64 {
     }
     if let Format::Obj = format {
         let is_face = first == b"f".as_slice();
-        return if is_face { word_count(line).saturating_sub(1) } else { 0 };
+        return if is_face {
+            word_count(line).saturating_sub(1)
+        } else {
+            0
+        };
     }
     if ahead.has_head {
         *ahead = behind_head(*ahead, format, line);

@@ -30,7 +30,10 @@ static OTHER_FORMATS: [Row; 4] = [
         "ply",
         "this looks like a PLY file: `topo convert FILE.ply FILE.obj` makes it one that is tracked",
     ),
-    ("solid facet", "this looks like an STL file, which is not read"),
+    (
+        "solid facet",
+        "this looks like an STL file, which is not read",
+    ),
     (
         "set shift drive step split collapse flip zip pinch fit save group close",
         "this looks like a text of steps: the mesh comes first, and then the steps",

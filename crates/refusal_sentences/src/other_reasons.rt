@@ -18,8 +18,14 @@ static OTHER_OFF: [Row; 5] = [
         "COFF NOFF CNOFF STOFF 4OFF nOFF",
         "vertices with colours, normals or a fourth coordinate are not read: store the file as plain OFF",
     ),
-    ("ply", "this looks like a PLY file: its name has to end in .ply"),
-    ("v f o g mtllib", "this looks like an OBJ file: its name has to end in .obj"),
+    (
+        "ply",
+        "this looks like a PLY file: its name has to end in .ply",
+    ),
+    (
+        "v f o g mtllib",
+        "this looks like an OBJ file: its name has to end in .obj",
+    ),
     ("solid", "this looks like an STL file, which is not read"),
 ];
 
@@ -54,13 +60,22 @@ fn expected_row(why: TextWhy) -> &'static str {
 
 // What a line of a PLY head that is not read may be, by its first word alone.
 static OTHER_HEAD: [Row; 5] = [
-    ("format", "binary PLY is not read: store the file as ASCII PLY"),
+    (
+        "format",
+        "binary PLY is not read: store the file as ASCII PLY",
+    ),
     (
         "property",
         "a property is `property TYPE NAME`, and x, y and z are among those of a vertex, once each",
     ),
-    ("OFF", "this looks like an OFF file: its name has to end in .off"),
-    ("v f o g mtllib", "this looks like an OBJ file: its name has to end in .obj"),
+    (
+        "OFF",
+        "this looks like an OFF file: its name has to end in .off",
+    ),
+    (
+        "v f o g mtllib",
+        "this looks like an OBJ file: its name has to end in .obj",
+    ),
     ("solid", "this looks like an STL file, which is not read"),
 ];
 

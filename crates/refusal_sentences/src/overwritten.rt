@@ -48,7 +48,11 @@ pub fn prefix_warning(prefix: &str, is_folder: bool) -> Option<Sentence<'_>> {
 }
 
 /// Says that standard output goes to a file that the job reads, or to one in whose place it may store another.
-pub fn output_file_reason(alloc: Global, name: &str, is_stored: bool) -> Result<String, AllocError> {
+pub fn output_file_reason(
+    alloc: Global,
+    name: &str,
+    is_stored: bool,
+) -> Result<String, AllocError> {
     let text = if is_stored {
         "standard output goes to {name}, a name that this job may store: what is written there would be lost, so send it to a name of its own"
     } else {

@@ -75,7 +75,12 @@ pub(crate) fn place<'a>(name: &'a str, number: u32, line: &'a [u8]) -> Sentence<
     let (name, number) = (Value::Text(name), Value::Number(u64::from(number)));
     match shown(line) {
         Some(text) => {
-            Sentence::of_three("{name}, line {number}: {text}", name, number, Value::Quoted(text))
+            Sentence::of_three(
+                "{name}, line {number}: {text}",
+                name,
+                number,
+                Value::Quoted(text),
+            )
         }
         None => Sentence::of_two("{name}, line {number}", name, number),
     }

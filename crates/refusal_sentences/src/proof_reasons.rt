@@ -32,7 +32,14 @@ pub fn proof_text_reason(
 ) -> Result<String, AllocError>
     requires { length bytes.now ≤ TEXT_MAX }
 {
-    own_text_reason(alloc, name, bytes, b"proof", fault.line, expected(fault.why))
+    own_text_reason(
+        alloc,
+        name,
+        bytes,
+        b"proof",
+        fault.line,
+        expected(fault.why),
+    )
 }
 
 /// What is found against a motion of a log.

@@ -49,12 +49,7 @@ impl<'a> Sentence<'a> {
     }
 
     /// A sentence with three places.
-    pub fn of_three(
-        text: &'static str,
-        a: Value<'a>,
-        b: Value<'a>,
-        c: Value<'a>,
-    ) -> Sentence<'a> {
+    pub fn of_three(text: &'static str, a: Value<'a>, b: Value<'a>, c: Value<'a>) -> Sentence<'a> {
         let values = [a, b, c, Value::Nothing];
         Sentence { text, values }
     }
@@ -67,7 +62,10 @@ impl<'a> Sentence<'a> {
 
 // A sentence with places for the two vertices of an edge and for a face.
 pub(crate) fn of_pair(text: &'static str, pair: PairName) -> Sentence<'static> {
-    let (a, b) = (Value::Number(u64::from(pair.a.0)), Value::Number(u64::from(pair.b.0)));
+    let (a, b) = (
+        Value::Number(u64::from(pair.a.0)),
+        Value::Number(u64::from(pair.b.0)),
+    );
     Sentence::of_three(text, a, b, Value::Number(u64::from(pair.face.0)))
 }
 

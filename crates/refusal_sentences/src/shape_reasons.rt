@@ -104,18 +104,16 @@ fn many(count: u64, what: &'static str, most: u32, most_large: u32) -> Sentence<
 }
 
 // What is wrong with the shape of a mesh.
-fn what_is_wrong(
-    scale: Scale,
-    format: Format,
-    bytes: &[u8],
-    fault: ShapeFault,
-) -> Sentence<'static>
+fn what_is_wrong(scale: Scale, format: Format, bytes: &[u8], fault: ShapeFault) -> Sentence<'static>
     requires { length bytes.now ≤ TEXT_MAX }
 {
     let (limits, large) = (scale.limits(), Scale::Large.limits());
     match fault {
         ShapeFault::TooManyVertices { count } => many(
-            count, "vertices", limits.vertices, large.vertices,
+            count,
+            "vertices",
+            limits.vertices,
+            large.vertices,
         ),
         ShapeFault::TooManyFaces { count } => many(count, "faces", limits.faces, large.faces),
         ShapeFault::NoVertex { face, corner } => Sentence::of_three(

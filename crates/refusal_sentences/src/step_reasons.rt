@@ -12,8 +12,14 @@ use std::alloc::{AllocError, Global};
 
 // How a directive is written, by its first word.
 static FORMS: [Row; 14] = [
-    ("set", "it is written `set depth D`, `set halvings H`, `set passes P` or `set zones Z`"),
-    ("shift", "it is written `shift V DX DY DZ` or `shift all DX DY DZ`"),
+    (
+        "set",
+        "it is written `set depth D`, `set halvings H`, `set passes P` or `set zones Z`",
+    ),
+    (
+        "shift",
+        "it is written `shift V DX DY DZ` or `shift all DX DY DZ`",
+    ),
     ("drive", "it is written `drive NAME`"),
     ("solid", "it is written `solid V`"),
     ("split", "it is written `split L`"),
@@ -109,11 +115,7 @@ pub fn step_text_reason(
 // Why a directive is refused.
 fn what_is_refused(why: UseWhy) -> Sentence<'static> {
     let (text, v, most) = match why {
-        UseWhy::NoVertex { v: 0 } => (
-            "there is no vertex 0: vertices are numbered from 1",
-            0,
-            0,
-        ),
+        UseWhy::NoVertex { v: 0 } => ("there is no vertex 0: vertices are numbered from 1", 0, 0),
         UseWhy::NoVertex { v } => (
             "there is no vertex {v} here: it was not made yet, or an edit has taken it away",
             v,
@@ -159,5 +161,8 @@ pub fn gone_reason(
             "there is no vertex {v} any more: an edit has taken it away with the faces that it had",
     };
     let (v, by) = (Value::Number(u64::from(v)), Value::Number(by.unwrap_or(0)));
-    told(alloc, &[place(name, line, &[]), Sentence::of_two(text, v, by)])
+    told(
+        alloc,
+        &[place(name, line, &[]), Sentence::of_two(text, v, by)],
+    )
 }

@@ -238,11 +238,7 @@ fn any_fault<'a>(wanted: Wanted, seen: &mut Seen, word: &'a str) -> Option<Sente
 }
 
 // Takes a word behind `--`, and says what is wrong with it, if anything is.
-fn behind_dashes_fault<'a>(
-    wanted: Wanted,
-    seen: &mut Seen,
-    word: &'a str,
-) -> Option<Sentence<'a>> {
+fn behind_dashes_fault<'a>(wanted: Wanted, seen: &mut Seen, word: &'a str) -> Option<Sentence<'a>> {
     if word.starts_with('-') {
         return Some(Sentence::of_one(
             "{word} stands after `--`, where names of files stand alone, and it has a dash in front",
@@ -280,7 +276,10 @@ fn lacking(wanted: Wanted, seen: Seen) -> Sentence<'static> {
         "`topo {form}` wants {wants} names of files, and {files} {are} given"
     };
     let (form, wants) = (Value::Text(wanted.form), Value::Number(wanted.files));
-    Sentence::of_four(text, [form, wants, Value::Number(seen.files), are(seen.files)])
+    Sentence::of_four(
+        text,
+        [form, wants, Value::Number(seen.files), are(seen.files)],
+    )
 }
 
 // Says what is wrong with the words behind a command that takes files: it tells the first word that is at fault, in the order in which they

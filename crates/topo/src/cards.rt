@@ -34,12 +34,7 @@ pub(crate) struct CardRefusal {
 }
 
 // Why the file of a card was not had.
-fn unread(
-    alloc: Global,
-    name: &str,
-    fault: FetchFault,
-    trouble: Option<&Trouble>,
-) -> CardRefusal {
+fn unread(alloc: Global, name: &str, fault: FetchFault, trouble: Option<&Trouble>) -> CardRefusal {
     let (status, why) = match fault {
         FetchFault::NoMemory => (Outcome::NoMemory.status(), no_memory(alloc)),
         FetchFault::Failed => (Outcome::DeskFault.status(), trouble_reason(alloc, trouble)),
@@ -134,6 +129,18 @@ fn made_of(
     })
 }
 
+// Stores a file, and leaves what is known of the mesh that was stored last.
+fn store_beside(
+    name: &str,
+    bytes: &[u8],
+    desk: &mut GuardedDesk<'_, '_, '_, HostRuntime>,
+) -> Result<(), StoreFault> {
+    let stored = desk.desk.stored.take();
+    let result = desk.desk.store(name, bytes);
+    desk.desk.stored = stored;
+    result
+}
+
 // Stores a card, and gives the outcome of the run: the one that it had, or why the card was not stored.
 fn store_card(
     alloc: Global,
@@ -145,10 +152,7 @@ fn store_card(
     let Ok(text) = card_text(alloc, card) else {
         return Outcome::NoMemory;
     };
-    let stored = desk.desk.stored.take();
-    let result = desk.desk.store(name, text.as_slice());
-    desk.desk.stored = stored;
-    match result {
+    match store_beside(name, text.as_slice(), desk) {
         Ok(()) => outcome,
         Err(StoreFault::NoMemory) => Outcome::NoMemory,
         Err(StoreFault::Failed) => Outcome::DeskFault,

@@ -4,10 +4,10 @@ use mesh_base::{PairName, Scale, ShapeFault, UseWhy};
 use motion_proof::Verdict;
 use outside_io::Trouble;
 use refusal_sentences::{
-    Unproved, and_told, gone_reason, log_text_reason, long_reason, meeting_reason, mesh_text_reason,
-    missing_reason, motion_reason, off_text_reason, output_reason, ply_text_reason,
-    proof_text_reason, replay_reason, shape_reason, step_text_reason, trouble_reason, use_reason,
-    words_reason,
+    Unproved, and_told, gone_reason, log_text_reason, long_reason, meeting_reason,
+    mesh_text_reason, missing_reason, motion_reason, off_text_reason, output_reason,
+    ply_text_reason, proof_text_reason, replay_reason, shape_reason, step_text_reason,
+    trouble_reason, use_reason, words_reason,
 };
 use std::alloc::{AllocError, Global};
 use std::io;

@@ -132,7 +132,6 @@ enum Given {
 
 // How a command is called: its name, the same after the program's, what it does, the words that it has to be given and what each of them is,
 // its options, and what is told behind all this.
-#[derive(Clone, Copy)]
 struct Page {
     name: &'static str,
     called: &'static str,
@@ -142,7 +141,7 @@ struct Page {
     behind: &'static str,
 }
 
-const TRACK: Page = Page {
+static TRACK: Page = Page {
     name: "track",
     called: "topo track",
     about: "Moves and edits a closed triangle mesh, and keeps it free of self-intersections",
@@ -159,7 +158,7 @@ const TRACK: Page = Page {
     behind: STEP_TEXT,
 };
 
-const CONVERT: Page = Page {
+static CONVERT: Page = Page {
     name: "convert",
     called: "topo convert",
     about: "Stores a mesh in another format",
@@ -171,7 +170,7 @@ const CONVERT: Page = Page {
     behind: FORMATS,
 };
 
-const MEASURE: Page = Page {
+static MEASURE: Page = Page {
     name: "measure",
     called: "topo measure",
     about: "Tells what a log did to volume and shape",
@@ -180,7 +179,7 @@ const MEASURE: Page = Page {
     behind: MEASURES,
 };
 
-const PROVE: Page = Page {
+static PROVE: Page = Page {
     name: "prove",
     called: "topo prove",
     about: "Writes a proof that nothing meets in the motions of a log",
@@ -189,7 +188,7 @@ const PROVE: Page = Page {
     behind: PROVES,
 };
 
-const VERIFY: Page = Page {
+static VERIFY: Page = Page {
     name: "verify",
     called: "topo verify",
     about: "Checks a proof that nothing meets in the motions of a log",
@@ -202,7 +201,7 @@ const VERIFY: Page = Page {
     behind: VERIFIES,
 };
 
-const REPLAY: Page = Page {
+static REPLAY: Page = Page {
     name: "replay",
     called: "topo replay",
     about: "Makes the meshes of a log again, and stores them",
@@ -211,11 +210,16 @@ const REPLAY: Page = Page {
         ("LOG", WRITTEN),
         ("PREFIX", "Meshes are stored as PREFIX-000000.obj and so on"),
     ],
-    options: &[Given::Large, Given::Decimals, Given::Only, Given::Card(HELD)],
+    options: &[
+        Given::Large,
+        Given::Decimals,
+        Given::Only,
+        Given::Card(HELD),
+    ],
     behind: REPLAYS,
 };
 
-const CHECK: Page = Page {
+static CHECK: Page = Page {
     name: "check",
     called: "topo check",
     about: "Tells all that is wrong with a mesh",
@@ -224,7 +228,7 @@ const CHECK: Page = Page {
     behind: CHECKS,
 };
 
-const TRY: Page = Page {
+static TRY: Page = Page {
     name: "try",
     called: "topo try",
     about: "Makes a job of cubes by a key, runs it, and sums up its log",
@@ -237,18 +241,18 @@ const TRY: Page = Page {
 };
 
 // How the command of a name is called, if there is one.
-fn page_of(name: &str) -> Option<Page>
+fn page_of(name: &str) -> Option<&'static Page>
     ensures { is_some result ≡ is_command name.now }
 {
     match name {
-        "track" => Some(TRACK),
-        "convert" => Some(CONVERT),
-        "try" => Some(TRY),
-        "measure" => Some(MEASURE),
-        "prove" => Some(PROVE),
-        "verify" => Some(VERIFY),
-        "replay" => Some(REPLAY),
-        "check" => Some(CHECK),
+        "track" => Some(&TRACK),
+        "convert" => Some(&CONVERT),
+        "try" => Some(&TRY),
+        "measure" => Some(&MEASURE),
+        "prove" => Some(&PROVE),
+        "verify" => Some(&VERIFY),
+        "replay" => Some(&REPLAY),
+        "check" => Some(&CHECK),
         _ => None,
     }
 }
@@ -290,7 +294,7 @@ fn option<'a>(alloc: Global, given: Given) -> Arg<'a> {
 }
 
 // The command of a page.
-fn command_of(alloc: Global, page: Page) -> Result<Command<'static>, AllocError> {
+fn command_of(alloc: Global, page: &Page) -> Result<Command<'static>, AllocError> {
     let mut command = Command::new(alloc, page.name)
         .about(page.about)
         .after_help(page.behind);

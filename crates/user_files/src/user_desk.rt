@@ -62,7 +62,11 @@ fn is_free<R: Files>(rt: &R, name: &str) -> bool {
 
 // The name under which a file of a name is kept, by how many such names are tried.
 fn kept_name(alloc: Global, name: &str, number: u32) -> Result<String, AllocError> {
-    let text = if number == 1 { "{name}.before" } else { "{name}.before-{number}" };
+    let text = if number == 1 {
+        "{name}.before"
+    } else {
+        "{name}.before-{number}"
+    };
     let number = Value::Number(u64::from(number));
     told(alloc, &[Sentence::of_two(text, Value::Text(name), number)])
 }

@@ -44,21 +44,15 @@ fn surface_warnings(lists: &MeshLists) -> [Option<Sentence<'static>>; 2] {
 // The warnings that the end of the directives gives.
 fn ending_warnings(ending: Ending) -> [Option<Sentence<'static>>; 3] {
     [
-        ending
-            .is_empty
-            .then_some(Sentence::of(
-                "there are no steps: mesh 0 is the mesh as it was read",
-            )),
-        ending
-            .is_unsaved
-            .then_some(Sentence::of(
-                "what is done after the last `save` is stored in no mesh",
-            )),
-        ending
-            .asks_in_vain
-            .then_some(Sentence::of(
-                "shifts are requested after the last `step`, and nothing takes them",
-            )),
+        ending.is_empty.then_some(Sentence::of(
+            "there are no steps: mesh 0 is the mesh as it was read",
+        )),
+        ending.is_unsaved.then_some(Sentence::of(
+            "what is done after the last `save` is stored in no mesh",
+        )),
+        ending.asks_in_vain.then_some(Sentence::of(
+            "shifts are requested after the last `step`, and nothing takes them",
+        )),
     ]
 }
 

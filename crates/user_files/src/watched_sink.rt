@@ -54,7 +54,12 @@ fn taken_so_far(taken: u64, of: u64) -> Sentence<'static> {
     } else {
         "{taken} of {of} lines of the log are taken ({percent} %)"
     };
-    Sentence::of_three(text, Value::Number(taken), Value::Number(of), Value::Number(percent))
+    Sentence::of_three(
+        text,
+        Value::Number(taken),
+        Value::Number(of),
+        Value::Number(percent),
+    )
 }
 
 impl<'l, 'a, K: Sink, R: Eprint + Clock> WatchedSink<'l, 'a, K, R> {
