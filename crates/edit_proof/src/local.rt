@@ -1,16 +1,15 @@
 //! The maker of certificates and their check, with a look at what is near what an edit touches alone.
-ghost use Rattle.std.specs.Prelude.{◌≡◌, ◌↔◌, IfOk};
-ghost use Rattle.edit_base.specs.Scaffold.{motion_by};
-ghost use Rattle.motion_proof.specs.declared.certificate.Verdict.TheVariants.{Accepted};
-ghost use Rattle.motion_proof.specs.Acceptance.{AreWays, IsAccepted, IsClearAs};
-ghost use Rattle.motion_proof.specs.Making.{IsMade, IsAcceptedIfMade};
-ghost use Rattle.motion_proof.specs.Verdicts.{IsVerdict};
+ghost use Rattle.std.specs.Prelude.{IfOk};
+ghost use Rattle.motion_proof.specs.Acceptance.{AreWays};
+ghost use Rattle.motion_proof.specs.OfWays.{IsMadeOfWays, IsAcceptedIfMadeOfWays};
+ghost use Rattle.motion_proof.specs.OfWays.{IsVerdictOfWays, AcceptsExactly, IsClearIfAccepted};
 ghost use Rattle.edit_check.specs.Untouched.{IsClearWhereUntouched};
 
 use crate::near::needing_near;
 use grid_base::NoMemory;
 use mesh_base::Surface;
-use motion_proof::{Certificate, Claim, Going, Made, Verdict, Way, made_of, verdict_of};
+use motion_proof::{Certificate, Claim, Made, Verdict, Way, made_of, verdict_of};
+use pair_scan::MovedVertices;
 use std::alloc::Global;
 
 /// What `certify` makes of a motion in half units, word for word, where no untouched pair meets: a certificate of the
@@ -30,13 +29,11 @@ pub fn certify_near<S: Surface>(
 ) -> Result<Made, NoMemory>
     requires fits { AreWays ways.now }
     requires clear { IsClearWhereUntouched (S.mesh mesh.now) ways.now fresh_from }
-    ensures made { IfOk result
-        (IsMade (S.mesh mesh.now) (motion_by (S.mesh mesh.now) ways.now) claim) }
+    ensures made { IfOk result (IsMadeOfWays (S.mesh mesh.now) ways.now claim) }
     // What is made is accepted.
-    ensures accepted { IfOk result
-        (IsAcceptedIfMade (S.mesh mesh.now) (motion_by (S.mesh mesh.now) ways.now) claim) }
+    ensures accepted { IfOk result (IsAcceptedIfMadeOfWays (S.mesh mesh.now) ways.now claim) }
 {
-    let going = Going { mesh, ways };
+    let going = MovedVertices { mesh, moves: ways };
     let names = needing_near(alloc, &going, fresh_from)?;
     made_of(alloc, mesh, &going, names.as_slice(), claim)
 }
@@ -57,16 +54,11 @@ pub fn accepts_near<S: Surface>(
 ) -> Result<Verdict, NoMemory>
     requires fits { AreWays ways.now }
     requires clear { IsClearWhereUntouched (S.mesh mesh.now) ways.now fresh_from }
-    ensures exact { IfOk result
-        (IsVerdict (S.mesh mesh.now) (motion_by (S.mesh mesh.now) ways.now)
-        proof.now.claim proof.now.entries) }
-    ensures accepted { IfOk result (λ v. v ≡ Accepted
-        ↔ IsAccepted (S.mesh mesh.now) (motion_by (S.mesh mesh.now) ways.now)
-        proof.now.claim proof.now.entries) }
-    ensures clear { IfOk result (λ v. v ≡ Accepted
-        → IsClearAs proof.now.claim (S.mesh mesh.now) (motion_by (S.mesh mesh.now) ways.now)) }
+    ensures exact { IfOk result (IsVerdictOfWays (S.mesh mesh.now) ways.now proof.now) }
+    ensures accepted { IfOk result (AcceptsExactly (S.mesh mesh.now) ways.now proof.now) }
+    ensures clear { IfOk result (IsClearIfAccepted (S.mesh mesh.now) ways.now proof.now) }
 {
-    let going = Going { mesh, ways };
+    let going = MovedVertices { mesh, moves: ways };
     let names = needing_near(alloc, &going, fresh_from)?;
     Ok(verdict_of(mesh, &going, names.as_slice(), proof))
 }
