@@ -70,7 +70,7 @@ impl<'a> ListOfMesh<'a> {
 }
 
 /// The list, if it is one of this mesh.
-pub(crate) fn compared<'a, S: Surface>(
+pub(crate) fn compare<'a, S: Surface>(
     alloc: Global,
     kept: &'a KeptList,
     mesh: &S,

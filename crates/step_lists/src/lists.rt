@@ -11,7 +11,7 @@ use crate::ahead::skin_ahead;
 use crate::backoff::Backoff;
 use crate::end_positions::EndPositions;
 use crate::kept::KeptList;
-use crate::list_of_mesh::{ListOfMesh, compared};
+use crate::list_of_mesh::{ListOfMesh, compare};
 use grid_base::{DEPTH_MAX, NoMemory};
 use mesh_base::{Shifts, Surface};
 use neighbour_list::failing_by_list;
@@ -92,7 +92,7 @@ impl StepLists {
         ensures { IfOk result (IsOfMesh (S.mesh mesh.now)) }
     {
         match &self.kept {
-            Some(kept) => compared(alloc, kept, mesh),
+            Some(kept) => compare(alloc, kept, mesh),
             None => Ok(ListOfMesh { kept: None }),
         }
     }
