@@ -1,7 +1,7 @@
 use Rattle.std.proofs.Common.{◌≤◌, ◌⊎◌, inl, inr, length, arith}
 use Rattle.mesh_faults.proofs.Differing.{tails_put, walked_through}
-use Rattle.mesh_faults.proofs.balance.differing.Goals as goal
-use Rattle.mesh_faults.proofs.balance.differing.Goals.{then-loop-i-test+else-j-other, else-loop-i-test}
+use Rattle.mesh_faults.proofs.balance.differences.Goals as goal
+use Rattle.mesh_faults.proofs.balance.differences.Goals.{then-loop-i-test+else-j-other, else-loop-i-test}
 
 pub returns : goal.returns
 returns c = λ u v.

@@ -1,7 +1,7 @@
 use Rattle.std.proofs.Common.{◌≡◌, ℕ, ◌≤◌, ◌+◌, ◌-◌, ◌||◌, length, drop}
 use Rattle.mesh_base.specs.SideList.{has_side}
 use Rattle.mesh_faults.specs.Balance.{differs}
-use Rattle.mesh_faults.proofs.balance.differing.Given as goal
+use Rattle.mesh_faults.proofs.balance.differences.Given as goal
 
 -- what was found, and what is to come differs in, is what the lists differ in
 abbrev pub invariant-loop-i : goal.invariant-loop-i

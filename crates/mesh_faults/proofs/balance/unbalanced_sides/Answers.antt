@@ -2,14 +2,14 @@ use Rattle.std.proofs.Common.{◌∙◌}
 use Rattle.mesh_plain.specs.Shape.{runs_in}
 use Rattle.mesh_faults.specs.Balance.{IsInOrder}
 use Rattle.mesh_faults.proofs.Unbalanced.{differs_where, differing_small, in_order, runs_seen}
-use Rattle.mesh_faults.proofs.balance.unbalanced.Goals as goal
+use Rattle.mesh_faults.proofs.balance.unbalanced_sides.Goals as goal
 
-pub differing-requires-clause-one_order : goal.differing-requires-clause-one_order
-differing-requires-clause-one_order c =
+pub differences-requires-clause-one_order : goal.differences-requires-clause-one_order
+differences-requires-clause-one_order c =
     in_order c.in_ok-sides.sides.up.items c.put_in_order.new.sides.items c.deref.result.now c.put_in_order.ensures.same c.deref.ensures.value c.in_ok-sides.ensures.small_up c.put_in_order.ensures.order
 
-pub differing-requires-clause-other_order : goal.differing-requires-clause-other_order
-differing-requires-clause-other_order c =
+pub differences-requires-clause-other_order : goal.differences-requires-clause-other_order
+differences-requires-clause-other_order c =
     in_order c.in_ok-sides.sides.down.items c.put_in_order-2.new.sides.items c.deref-2.result.now c.put_in_order-2.ensures.same c.deref-2.ensures.value c.in_ok-sides.ensures.small_down c.put_in_order-2.ensures.order
 
 pub put_once-requires : goal.put_once-requires
