@@ -1,5 +1,5 @@
 use Rattle.std.proofs.Common.{◌≡◌, take}
-use Rattle.step_choose.proofs.near.are_same.Given as goal
+use Rattle.step_choose.proofs.list_source.are_same.Given as goal
 
 -- those so far are the same
 abbrev pub invariant-loop-i : goal.invariant-loop-i

@@ -11,7 +11,7 @@ use step_zones::TellsFailing;
 /// The list that is kept, as it was compared with a mesh, and the pairs that do not pass by the asked shifts. Round 0 goes by
 /// these shifts, so it has these pairs; the list is asked for those of each later round.
 #[derive(Clone, Copy)]
-pub(crate) struct Near<'a> {
+pub(crate) struct ListSource<'a> {
     pub(crate) list: ListOfMesh<'a>,
     pub(crate) asked: &'a [ShiftOf],
     pub(crate) hits: &'a [PairName],
@@ -49,7 +49,7 @@ fn are_same(a: &[ShiftOf], b: &[ShiftOf]) -> bool
     true
 }
 
-impl<'a> TellsFailing for Near<'a> {
+impl<'a> TellsFailing for ListSource<'a> {
     ghost use Rattle.std.specs.Prelude.{◌≡◌};
     ghost use Rattle.grid_decided.specs.Decided.{meets_exactly};
     ghost use Rattle.mesh_base.specs.Failing.{failing};

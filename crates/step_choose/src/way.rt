@@ -3,7 +3,7 @@ use step_zones::Blocks;
 
 /// A way in which a step can be taken.
 #[derive(Drop)]
-pub(crate) struct Found {
+pub(crate) struct StepWay {
     pub how: How,
     pub taken: Shifts,
     pub blocks: Blocks,
