@@ -10,14 +10,14 @@ use std::alloc::Global;
 // The position nearest to these three whole numbers, along each axis.
 fn position_near(p: Wide) -> Position {
     Position::of(Wide {
-        x: bounded(p.x),
-        y: bounded(p.y),
-        z: bounded(p.z),
+        x: clamp(p.x),
+        y: clamp(p.y),
+        z: clamp(p.z),
     })
 }
 
 // The number, or the nearest that a coordinate may be.
-fn bounded(x: i128) -> i128
+fn clamp(x: i128) -> i128
     ensures { unsigned_abs result ≤ HALF_MAX }
 {
     let most = i128::from(HALF_MAX);

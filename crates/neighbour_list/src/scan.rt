@@ -109,7 +109,7 @@ fn failing_in<P: Paths>(
 }
 
 // The pairs of the mesh that do not pass, by the list; None where the list does not serve.
-fn scanned<S: Surface>(
+fn scan_by_list<S: Surface>(
     alloc: Global,
     mesh: &S,
     by: &[ShiftOf],
@@ -164,7 +164,7 @@ pub fn failing_by_list<S: Surface>(
     requires list { IsListOf (S.mesh mesh.now) list.now }
     ensures { IfOk result (λ o. IfSome o (AreAllFailing (S.mesh mesh.now) by.now depth)) }
 {
-    scanned(alloc, mesh, by.as_slice(), depth, list, false)
+    scan_by_list(alloc, mesh, by.as_slice(), depth, list, false)
 }
 
 /// Whether all pairs of a clear mesh pass where each vertex goes from its point by its shift, by a list of this mesh; None
@@ -183,7 +183,7 @@ pub fn all_pass_by_list<S: Surface>(
     requires list { IsListOf (S.mesh mesh.now) list.now }
     ensures { IfOk result (λ o. IfSome o (TellsWhetherAllPass (S.mesh mesh.now) by.now depth)) }
 {
-    match scanned(alloc, mesh, by.as_slice(), depth, list, true)? {
+    match scan_by_list(alloc, mesh, by.as_slice(), depth, list, true)? {
         Some(found) => Ok(Some(has_none(&found))),
         None => Ok(None),
     }

@@ -6,7 +6,7 @@ use Rattle.pair_scan.specs.Found.{AreFound}
 use Rattle.neighbour_list.specs.Listed.{IsApart, failing_in}
 use Rattle.neighbour_list.specs.Clusters.{ClustersServe}
 use Rattle.neighbour_list.proofs.ByList.{by_list, listed_apart}
-use Rattle.neighbour_list.proofs.scan.scanned.Goals as goal
+use Rattle.neighbour_list.proofs.scan.scan_by_list.Goals as goal
 
 pub failing_in-requires-clause-apart : goal.failing_in-requires-clause-apart
 failing_in-requires-clause-apart g c =

@@ -2,7 +2,7 @@ use Rattle.std.proofs.Common.{length, refl}
 use Rattle.std.proofs.lemmas.Option.{slice_get_read}
 use Rattle.pair_scan.proofs.IdSearch.{found_at, found_inside, absent_between}
 use Rattle.pair_scan.proofs.ShiftSearch.{id_of, past}
-use Rattle.pair_scan.proofs.lookup.sought_place.Goals as goal
+use Rattle.pair_scan.proofs.lookup.find_place.Goals as goal
 
 pub returns-in-Some : goal.returns-in-Some
 returns-in-Some c = (
