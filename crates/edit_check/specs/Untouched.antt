@@ -3,9 +3,7 @@
 use Rattle.std.specs.Prelude.{◌≡◌, ℕ, ◌<◌, ◌⊎◌, IsTrue, List}
 use Rattle.std.specs.List.{All}
 use Rattle.std.proofs.Common.{None}
-use Rattle.grid_base.specs.declared.TheConstants.{HALF_MAX}
 use Rattle.grid_base.specs.Meeting.{MeetAt}
-use Rattle.grid_base.specs.Triples.{IsWithin}
 use Rattle.mesh_base.specs.declared.ids.Corners.{Corners}
 use Rattle.mesh_base.specs.Mesh.{Mesh, HasCorners}
 use Rattle.mesh_base.specs.Sides.{follows}
@@ -13,6 +11,7 @@ use Rattle.mesh_base.specs.Pairs.{Pair, IsPair, five_ids}
 use Rattle.mesh_base.specs.Placements.{rest_positions_doubled, positions}
 use Rattle.edit_base.specs.declared.Move.{Move}
 use Rattle.edit_base.specs.Scaffold.{move_of}
+pub use Rattle.pair_scan.specs.Moves.{MoveFits}
 
 -- a face below this id runs between the two, one way or the other
 pub record IsOldEdge (m : Mesh) (fresh_from : ℕ) (u v : ℕ) : Type 0 where
@@ -33,8 +32,3 @@ pub record IsUntouched (m : Mesh) (moves : List Move) (fresh_from : ℕ) (p : Pa
 abbrev pub IsClearWhereUntouched : Mesh → List Move → ℕ → Type 0
 IsClearWhereUntouched m moves fresh_from = (p : Pair) → IsUntouched m moves fresh_from p →
     ¬ (MeetAt (positions (rest_positions_doubled m) p))
-
--- the move begins and ends within the greatest size of a position in half units
-pub record MoveFits (move : Move) : Type 0 where
-  pub start : IsWithin HALF_MAX move.start
-  pub end : IsWithin HALF_MAX move.end

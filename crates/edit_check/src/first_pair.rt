@@ -10,7 +10,6 @@ ghost use Rattle.edit_check.specs.Reach.{ReachesTouched};
 ghost use Rattle.edit_check.specs.Checking.{scaffold_by};
 
 use crate::face_pairs::none_is_seen_to_fail;
-use crate::moves::Moved;
 use crate::nearby::faces_near;
 use crate::neighbourhood::Neighbourhood;
 use crate::pair_search::first_along;
@@ -21,12 +20,13 @@ use box_tree::SmallBox;
 use edit_base::{Move, Touch};
 use grid_base::{DEPTH_MAX, Extent, NoMemory};
 use mesh_base::{PairName, Surface, VertexId};
+use pair_scan::MovedVertices;
 use std::alloc::Global;
 
 /// What `check` answers where a box has each touched face.
 fn first_in_reach<S: Surface>(
     alloc: Global,
-    paths: &Moved<S>,
+    paths: &MovedVertices<S, &[Move]>,
     terms: Terms,
     fresh_from: u32,
     reach: Extent,
@@ -88,7 +88,7 @@ pub fn check<S: Surface>(
         together,
         depth,
     };
-    let paths = Moved { mesh, moves };
+    let paths = MovedVertices { mesh, moves };
     match reach_of(alloc, &paths, together, fresh_from)? {
         Some(reach) => first_in_reach(alloc, &paths, terms, fresh_from, reach),
         None => Ok(None),

@@ -6,15 +6,16 @@ ghost use Rattle.edit_check.specs.Boxed.{faces_in};
 ghost use Rattle.edit_check.specs.Nearby.{as_list, faces_among, near_faces};
 
 use crate::boxed::BoxedFace;
-use crate::moves::Moved;
 use crate::path_boxes::boxed_face;
+use edit_base::Move;
 use grid_base::{Extent, Items, NoMemory};
 use mesh_base::{Corners, FaceId, Surface};
 use pair_paths::{MovingFace, face_with_paths};
+use pair_scan::MovedVertices;
 use std::alloc::Global;
 
 /// A face, with the paths of its corners, if it is live.
-fn face_along<S: Surface>(paths: &Moved<S>, f: FaceId) -> Option<MovingFace>
+fn face_along<S: Surface>(paths: &MovedVertices<S, &[Move]>, f: FaceId) -> Option<MovingFace>
     ensures { let m = S.mesh paths.now.mesh.now in
         result ≡ live_face m (motion_by m paths.now.moves.now) f }
 {
@@ -26,7 +27,7 @@ fn face_along<S: Surface>(paths: &Moved<S>, f: FaceId) -> Option<MovingFace>
 
 /// Puts a face with the paths of its corners and its box at the end of a list, if it is live.
 fn put_face<S: Surface>(
-    paths: &Moved<S>,
+    paths: &MovedVertices<S, &[Move]>,
     f: FaceId,
     faces: &mut Vec<BoxedFace>,
 ) -> Result<(), NoMemory>
@@ -43,7 +44,7 @@ fn put_face<S: Surface>(
 /// The faces of these ids, with the paths of their corners and their boxes.
 pub(crate) fn faces_along<S: Surface>(
     alloc: Global,
-    paths: &Moved<S>,
+    paths: &MovedVertices<S, &[Move]>,
     ids: &[FaceId],
 ) -> Result<Items<BoxedFace>, NoMemory>
     ensures { let m = S.mesh paths.now.mesh.now in
@@ -62,7 +63,7 @@ const FOUND: usize = 64;
 /// The faces near an extent, with the paths of their corners and their boxes.
 pub(crate) fn faces_near<S: Surface>(
     alloc: Global,
-    paths: &Moved<S>,
+    paths: &MovedVertices<S, &[Move]>,
     reach: Extent,
 ) -> Result<Items<BoxedFace>, NoMemory>
     ensures { let m = S.mesh paths.now.mesh.now in

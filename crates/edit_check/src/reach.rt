@@ -7,19 +7,25 @@ ghost use Rattle.mesh_base.specs.Sides.{above, faces_at};
 ghost use Rattle.edit_check.specs.Reach.{HasVertex, HasFace, Reaches, ReachesAt, ReachesMoves};
 ghost use Rattle.edit_check.specs.Reach.{ReachesTouched, Widens, old_ones};
 
-use crate::moves::{Moved, Standing, is_moved};
+use crate::moves::is_moved;
+use edit_base::Move;
 use grid_base::{Extent, NoMemory};
 use mesh_base::{Corners, FaceId, FaceIds, Surface, VertexId, live_faces_above};
 use pair_paths::{HasBounds, Paths};
+use pair_scan::MovedVertices;
 use std::alloc::Global;
 
 /// A box that has the vertex where it stands, and all its way. One that no move names stands where it goes.
-fn box_of_vertex<S: Surface>(paths: &Moved<S>, v: VertexId) -> Extent
+fn box_of_vertex<S: Surface>(paths: &MovedVertices<S, &[Move]>, v: VertexId) -> Extent
     ensures { HasVertex (S.mesh paths.now.mesh.now) paths.now.moves.now v result }
 {
     let way = paths.path_of(v).bounds();
     if is_moved(paths.moves, v) {
-        let standing = Standing { mesh: paths.mesh };
+        let none: &[Move] = &[];
+        let standing = MovedVertices {
+            mesh: paths.mesh,
+            moves: none,
+        };
         way.united(&standing.path_of(v).bounds())
     } else {
         way
@@ -27,7 +33,7 @@ fn box_of_vertex<S: Surface>(paths: &Moved<S>, v: VertexId) -> Extent
 }
 
 /// A box that has the face where it stands, and all its way.
-fn box_of<S: Surface>(paths: &Moved<S>, face: FaceId, corners: &Corners) -> Extent
+fn box_of<S: Surface>(paths: &MovedVertices<S, &[Move]>, face: FaceId, corners: &Corners) -> Extent
     ensures { HasFace (S.mesh paths.now.mesh.now) paths.now.moves.now (face, corners.now) result }
 {
     let two = box_of_vertex(paths, corners.first).united(&box_of_vertex(paths, corners.second));
@@ -46,7 +52,11 @@ fn widened(reach: Option<Extent>, by: &Extent) -> Extent
 }
 
 /// The box, made to have the face, if it is live.
-fn reach_face<S: Surface>(paths: &Moved<S>, f: FaceId, reach: Option<Extent>) -> Option<Extent>
+fn reach_face<S: Surface>(
+    paths: &MovedVertices<S, &[Move]>,
+    f: FaceId,
+    reach: Option<Extent>,
+) -> Option<Extent>
     ensures reaches { Reaches (S.mesh paths.now.mesh.now) paths.now.moves.now result f }
     ensures keeps { Widens reach result }
 {
@@ -58,7 +68,7 @@ fn reach_face<S: Surface>(paths: &Moved<S>, f: FaceId, reach: Option<Extent>) ->
 
 /// The box, made to have the faces.
 fn reach_faces<S: Surface>(
-    paths: &Moved<S>,
+    paths: &MovedVertices<S, &[Move]>,
     faces: &[FaceId],
     reach: Option<Extent>,
 ) -> Option<Extent>
@@ -82,7 +92,7 @@ fn keep_old(faces: &mut Vec<FaceId>, fresh_from: u32)
 
 /// The box, made to have the old faces at a vertex.
 fn reach_at<S: Surface>(
-    paths: &Moved<S>,
+    paths: &MovedVertices<S, &[Move]>,
     fresh_from: u32,
     v: VertexId,
     at: &mut Vec<FaceId>,
@@ -99,7 +109,7 @@ fn reach_at<S: Surface>(
 
 /// The box, made to have the old faces at each vertex that moves.
 fn reach_moves<S: Surface>(
-    paths: &Moved<S>,
+    paths: &MovedVertices<S, &[Move]>,
     fresh_from: u32,
     at: &mut Vec<FaceId>,
     reach: Option<Extent>,
@@ -117,7 +127,7 @@ fn reach_moves<S: Surface>(
 
 /// The box, made to have the old faces at a vertex, if it has those at each vertex that moves.
 fn reach_vertex<S: Surface>(
-    paths: &Moved<S>,
+    paths: &MovedVertices<S, &[Move]>,
     fresh_from: u32,
     v: VertexId,
     at: &mut Vec<FaceId>,
@@ -136,7 +146,7 @@ fn reach_vertex<S: Surface>(
 
 /// The box, made to have the old faces at each of the vertices, if it has those at each vertex that moves.
 fn reach_vertices<S: Surface>(
-    paths: &Moved<S>,
+    paths: &MovedVertices<S, &[Move]>,
     fresh_from: u32,
     vertices: &[VertexId],
     at: &mut Vec<FaceId>,
@@ -161,7 +171,7 @@ const AROUND: usize = 16;
 /// The box, made to have the old faces at each vertex that moves and at each of the vertices.
 fn reach_old<S: Surface>(
     alloc: Global,
-    paths: &Moved<S>,
+    paths: &MovedVertices<S, &[Move]>,
     fresh_from: u32,
     vertices: &[VertexId],
     reach: Option<Extent>,
@@ -190,7 +200,7 @@ fn fresh_faces<S: Surface>(alloc: Global, mesh: &S, fresh_from: u32) -> Result<F
 /// the vertices.
 pub(crate) fn reach_of<S: Surface>(
     alloc: Global,
-    paths: &Moved<S>,
+    paths: &MovedVertices<S, &[Move]>,
     together: &[VertexId],
     fresh_from: u32,
 ) -> Result<Option<Extent>, NoMemory>

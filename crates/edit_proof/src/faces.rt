@@ -6,14 +6,15 @@ ghost use Rattle.edit_check.specs.Nearby.{as_list, faces_among};
 
 use grid_base::{Items, NoMemory};
 use mesh_base::{Corners, FaceId, Surface};
-use motion_proof::Going;
+use motion_proof::Way;
 use pair_paths::{MovingFace, face_with_paths};
+use pair_scan::MovedVertices;
 use std::alloc::Global;
 
 /// A face, with the paths of its corners, if it is live.
-fn face_along<S: Surface>(going: &Going<S>, f: FaceId) -> Option<MovingFace>
+fn face_along<S: Surface>(going: &MovedVertices<S, &[Way]>, f: FaceId) -> Option<MovingFace>
     ensures { let m = S.mesh going.now.mesh.now in
-        result ≡ live_face m (motion_by m going.now.ways.now) f }
+        result ≡ live_face m (motion_by m going.now.moves.now) f }
 {
     match going.mesh.corners(f) {
         Some(ids) => Some(face_with_paths(going, f, &Corners::of(ids))),
@@ -23,12 +24,12 @@ fn face_along<S: Surface>(going: &Going<S>, f: FaceId) -> Option<MovingFace>
 
 /// Puts a face with the paths of its corners at the end of a list, if it is live.
 fn put_face<S: Surface>(
-    going: &Going<S>,
+    going: &MovedVertices<S, &[Way]>,
     f: FaceId,
     faces: &mut Items<MovingFace>,
 ) -> Result<(), NoMemory>
     ensures { let m = S.mesh going.now.mesh.now in
-        let face = live_face m (motion_by m going.now.ways.now) f in
+        let face = live_face m (motion_by m going.now.moves.now) f in
         OnOk result (faces.new ≡ faces.old ++ as_list face) }
 {
     if let Some(face) = face_along(going, f) {
@@ -40,11 +41,11 @@ fn put_face<S: Surface>(
 /// The faces of these ids, with the paths of their corners.
 pub(crate) fn faces_along<S: Surface>(
     alloc: Global,
-    going: &Going<S>,
+    going: &MovedVertices<S, &[Way]>,
     ids: &[FaceId],
 ) -> Result<Items<MovingFace>, NoMemory>
     ensures { let m = S.mesh going.now.mesh.now in
-        IfOk result (λ faces. faces ≡ faces_among m going.now.ways.now ids.now) }
+        IfOk result (λ faces. faces ≡ faces_among m going.now.moves.now ids.now) }
 {
     let mut faces = Items::new(alloc);
     for f in ids {

@@ -7,7 +7,8 @@ ghost use Rattle.edit_proof.specs.Near.{IsMadeNear, IsAcceptedNear, IsVerdictNea
 use crate::near::needing_near;
 use grid_base::NoMemory;
 use mesh_base::Surface;
-use motion_proof::{Certificate, Claim, Going, Made, Verdict, Way, made_of, verdict_of};
+use motion_proof::{Certificate, Claim, Made, Verdict, Way, made_of, verdict_of};
+use pair_scan::MovedVertices;
 use std::alloc::Global;
 
 /// What `certify` makes of a motion in half units, word for word, where no untouched pair meets: a certificate of the
@@ -31,7 +32,7 @@ pub fn certify_near<S: Surface>(
     // What is made is accepted.
     ensures accepted { IfOk result (IsAcceptedNear (S.mesh mesh.now) ways.now claim) }
 {
-    let going = Going { mesh, ways };
+    let going = MovedVertices { mesh, moves: ways };
     let names = needing_near(alloc, &going, fresh_from)?;
     made_of(alloc, mesh, &going, names.as_slice(), claim)
 }
@@ -56,7 +57,7 @@ pub fn accepts_near<S: Surface>(
     ensures accepted { IfOk result (AcceptsExactly (S.mesh mesh.now) ways.now proof.now) }
     ensures clear { IfOk result (AcceptsClear (S.mesh mesh.now) ways.now proof.now) }
 {
-    let going = Going { mesh, ways };
+    let going = MovedVertices { mesh, moves: ways };
     let names = needing_near(alloc, &going, fresh_from)?;
     Ok(verdict_of(mesh, &going, names.as_slice(), proof))
 }

@@ -9,8 +9,9 @@ use crate::faces::faces_along;
 use crate::reach::reach_of;
 use grid_base::{Extent, NoMemory, Wide};
 use mesh_base::{FaceId, Surface, sides_in_order};
-use motion_proof::{Going, Names, needing_along};
+use motion_proof::{Names, Way, needing_along};
 use pair_paths::{Frame, Position};
+use pair_scan::MovedVertices;
 use std::alloc::Global;
 
 /// Sets `into` to the faces near the box, by rising id; to none, where there is no box.
@@ -43,12 +44,12 @@ fn resting_frame() -> Frame {
 /// at with these faces, and no others.
 pub(crate) fn needing_near<S: Surface>(
     alloc: Global,
-    going: &Going<S>,
+    going: &MovedVertices<S, &[Way]>,
     fresh_from: u32,
 ) -> Result<Names, NoMemory>
-    requires { IsClearWhereUntouched (S.mesh going.now.mesh.now) going.now.ways.now fresh_from }
+    requires { IsClearWhereUntouched (S.mesh going.now.mesh.now) going.now.moves.now fresh_from }
     ensures { let m = S.mesh going.now.mesh.now in
-        IfOk result (λ names. names ≡ needing m (motion_by m going.now.ways.now)) }
+        IfOk result (λ names. names ≡ needing m (motion_by m going.now.moves.now)) }
 {
     let reach = reach_of(alloc, going, fresh_from)?;
     let mut near = Vec::new(alloc);

@@ -1,9 +1,10 @@
 -- All that is wrong with lists of points and faces, in the order in which `shape_fault` looks for
 -- the first. Faces, corners and vertices are numbered from 1.
-use Rattle.std.specs.Prelude.{ℕ, ◌+◌, ◌==◌, Bool, not, List, [], ◌∷◌, ◌++◌, map, length, nat_lt, if◌then◌else◌}
+use Rattle.std.specs.Prelude.{◌≡◌, slice_get, ℕ, ◌+◌, ◌==◌, Bool, not, List, [], ◌∷◌, ◌++◌, map, length, nat_lt, if◌then◌else◌}
 use Rattle.std.specs.List.{filter, position_from}
 use Rattle.std.proofs.Common.{Option, Some, None}
 use Rattle.mesh_base.specs.declared.ids.Corners.{Corners}
+use Rattle.mesh_base.specs.declared.MeshLists.{MeshLists}
 use Rattle.mesh_base.specs.declared.faults.ShapeFault.{ShapeFault}
 use Rattle.mesh_base.specs.declared.faults.ShapeFault.TheVariants.{TooManyVertices, TooManyFaces, NoVertex, Repeated, Doubled, Unbalanced}
 use Rattle.mesh_base.specs.declared.limits.Scale.{Scale}
@@ -12,7 +13,7 @@ use Rattle.mesh_base.specs.Changes.{corners_of}
 use Rattle.mesh_base.specs.Given.{Faces}
 use Rattle.mesh_base.specs.Mesh.{equal_up_to_rotation}
 use Rattle.mesh_base.specs.Pairs.{id_pairs}
-use Rattle.mesh_plain.specs.Shape.{is_vertex, repeats, runs_in, numbers_to}
+use Rattle.mesh_plain.specs.Shape.{is_vertex, repeats, runs_in, numbers_to, shape_fault}
 
 -- a list of one, or of none
 abbrev pub one_if : {A : Type 0} → Bool → A → List A
@@ -74,3 +75,12 @@ shape_faults scale n fs =
     ++ all_repeated_from 1 fs
     ++ all_doubled_from 1 fs
     ++ map unbalanced_fault (unbalanced_pairs n fs)
+
+-- all faults of lists
+abbrev pub faults_of : Scale → MeshLists → List ShapeFault
+faults_of scale lists = shape_faults scale (length lists.points) lists.faces
+
+-- the first of them is the one that a test for one finds
+abbrev pub FirstIsShapeFault : Scale → MeshLists → Type 0
+FirstIsShapeFault scale lists =
+    slice_get (faults_of scale lists) 0 ≡ shape_fault scale (length lists.points) lists.faces

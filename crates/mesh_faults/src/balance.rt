@@ -145,7 +145,7 @@ fn walk(
 }
 
 // The sides that two lists in order do not have equally often, in any order, and perhaps some of them more than once.
-fn differing(alloc: Global, one: &[Side], other: &[Side]) -> Result<Vec<Side>, NoMemory>
+fn differences(alloc: Global, one: &[Side], other: &[Side]) -> Result<Vec<Side>, NoMemory>
     requires one_order { IsInOrder one.now }
     requires other_order { IsInOrder other.now }
     ensures { IfOk result
@@ -175,14 +175,14 @@ fn put_once(sides: &mut Vec<Side>)
 }
 
 // Each two numbers between which the faces do not run as often one way as the other, the smaller first, in order.
-fn unbalanced(alloc: Global, faces: &[[u32; 3]]) -> Result<Vec<Side>, NoMemory>
+fn unbalanced_sides(alloc: Global, faces: &[[u32; 3]]) -> Result<Vec<Side>, NoMemory>
     ensures order { IfOk result (λ list. IsStrictlySortedBy edge_cmp list.items) }
     ensures sides { IfOk result (λ list. HasUnbalanced list.items faces.now) }
 {
     let mut sides = sides_of(alloc, faces)?;
     put_in_order(&mut sides.up);
     put_in_order(&mut sides.down);
-    let mut list = differing(alloc, &sides.up, &sides.down)?;
+    let mut list = differences(alloc, &sides.up, &sides.down)?;
     put_once(&mut list);
     Ok(list)
 }
@@ -238,6 +238,6 @@ pub(crate) fn put_unbalanced(
     if most <= faults.len() {
         return Ok(());
     }
-    let sides = unbalanced(alloc, faces)?;
+    let sides = unbalanced_sides(alloc, faces)?;
     put_between(n, &sides, most, faults)
 }

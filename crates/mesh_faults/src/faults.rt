@@ -1,7 +1,6 @@
 //! All faults of the shape of lists.
-ghost use Rattle.std.specs.Prelude.{◌≡◌, length, take, slice_get, IfOk};
-ghost use Rattle.mesh_plain.specs.Shape.{shape_fault};
-ghost use Rattle.mesh_faults.specs.ShapeFaults.{shape_faults};
+ghost use Rattle.std.specs.Prelude.{◌≡◌, take, IfOk};
+ghost use Rattle.mesh_faults.specs.ShapeFaults.{faults_of, FirstIsShapeFault};
 
 use crate::balance::put_unbalanced;
 use crate::doubled::put_doubled;
@@ -22,11 +21,9 @@ pub fn shape_faults(
     lists: &MeshLists,
     most: usize,
 ) -> Result<Vec<ShapeFault>, NoMemory>
-    ensures found { IfOk result (λ found.
-        found.items ≡ take most (shape_faults scale (length lists.now.points) lists.now.faces)) }
+    ensures found { IfOk result (λ found. found.items ≡ take most (faults_of scale lists.now)) }
     // The first of all of them is the one that a test for one finds.
-    ensures first { slice_get (shape_faults scale (length lists.now.points) lists.now.faces) 0
-        ≡ shape_fault scale (length lists.now.points) lists.now.faces }
+    ensures first { FirstIsShapeFault scale lists.now }
 {
     let n = lists.points.len();
     let faces = lists.faces.as_slice();

@@ -1,14 +1,12 @@
 //! All edges and faces that meet.
 ghost use Rattle.std.specs.Prelude.{◌≡◌, take, slice_get, IfOk};
-ghost use Rattle.grid_decided.specs.Decided.{meets_exactly};
-ghost use Rattle.mesh_base.specs.Failing.{first_meeting};
-ghost use Rattle.mesh_base.specs.Placements.{rest_positions};
+ghost use Rattle.pair_scan.specs.Answers.{IsFirstMeeting};
 ghost use Rattle.mesh_faults.specs.MeetingPairs.{meeting_pairs, AreMeeting};
 
 use grid_base::{Items, NoMemory};
 use mesh_base::{PairName, Surface};
 use pair_candidates::told_of_mesh;
-use pair_scan::{AtRest, Meets};
+use pair_scan::{Meets, RestingVertices};
 use std::alloc::Global;
 
 // The pairs of a mesh that meet, up to the edge with which there are so many.
@@ -16,7 +14,14 @@ fn met_in<S: Surface>(alloc: Global, mesh: &S, most: usize) -> Result<Items<Pair
     ensures { IfOk result
         (λ found. take most found ≡ take most (meeting_pairs (S.mesh mesh.now))) }
 {
-    let found = told_of_mesh(alloc, &Meets, mesh, &AtRest { mesh }, &[], Some(most))?;
+    let found = told_of_mesh(
+        alloc,
+        &Meets,
+        mesh,
+        &RestingVertices { mesh },
+        &[],
+        Some(most),
+    )?;
     Ok(found)
 }
 
@@ -32,8 +37,7 @@ pub fn meeting_pairs<S: Surface>(
         (λ found. found.items ≡ take most (meeting_pairs (S.mesh mesh.now))) }
     // All of them: each pair that meets, and no other, in order; the first is the one that a scan for one pair finds.
     ensures each { AreMeeting (S.mesh mesh.now) (meeting_pairs (S.mesh mesh.now)) }
-    ensures first { slice_get (meeting_pairs (S.mesh mesh.now)) 0
-        ≡ first_meeting meets_exactly (S.mesh mesh.now) (rest_positions (S.mesh mesh.now)) }
+    ensures first { IsFirstMeeting (S.mesh mesh.now) (slice_get (meeting_pairs (S.mesh mesh.now)) 0) }
 {
     let found = met_in(alloc, mesh, most)?;
     let mut pairs = found.into_vec();

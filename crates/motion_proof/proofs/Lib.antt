@@ -1,10 +1,9 @@
 pub mod TreeLaws
 pub mod TreeHalves
 pub mod MadeTrees
-pub mod Ways
 pub mod Decided
 pub mod NeedsTested
-pub mod WaySearch
+pub mod MoveSearch
 pub mod NeedsApart
 pub mod NeedingList
 pub mod Firsts

@@ -5,3 +5,4 @@ pub mod Drift
 pub mod Widened
 pub mod Clusters
 pub mod Listed
+pub mod Laws

@@ -31,11 +31,15 @@ pair_of p = record { name = p.name; corners = p.corners }
 abbrev pub is_near_at : ℕ → Placement → Pair → Bool
 is_near_at skin at p = is_near skin (positions at p)
 
+-- the reference points of the list are these
+abbrev pub HasReferences : Placement → NeighbourList → Type 0
+HasReferences at l = All (AreAt at) l.clusters
+
 -- The list is one of the mesh: the corners of each face are in one of its clusters, and it lists
 -- exactly the pairs that are near at the reference points, in order.
 pub record IsListOf (m : Mesh) (l : NeighbourList) : Type 0 where
   pub at : Placement
-  pub references : All (AreAt at) l.clusters
+  pub references : HasReferences at l
   pub covered : (f : ℕ) (c : Corners) → HasCorners m f c → IsCovered l.clusters c
   pub pairs : l.pairs ≡ map listed (filter (is_near_at l.skin at) (pairs m))
 

@@ -1,12 +1,10 @@
 //! The pairs that do not pass, by a list where it serves.
-ghost use Rattle.std.specs.Prelude.{◌≡◌, ◌≤◌, [], IsTrue, IfOk};
+ghost use Rattle.std.specs.Prelude.{◌≤◌, IsTrue, IfOk};
 ghost use Rattle.grid_base.specs.declared.TheConstants.{DEPTH_MAX};
-ghost use Rattle.grid_decided.specs.Decided.{meets_exactly};
-ghost use Rattle.mesh_base.specs.Placements.{IsClearMesh, IsClearAlong};
-ghost use Rattle.mesh_base.specs.Shifts.{NameLive, end_in_box, moved_by};
-ghost use Rattle.mesh_base.specs.Failing.{failing};
+ghost use Rattle.mesh_base.specs.Placements.{IsClearMesh};
+ghost use Rattle.mesh_base.specs.Shifts.{NameLive, end_in_box};
+ghost use Rattle.pair_scan.specs.Answers.{AreAllFailing, TellsWhetherAllPass, IsClearIfNone, IsClearIfAllPass};
 ghost use Rattle.pair_scan.specs.Failed.{AreFailing};
-ghost use Rattle.pair_scan.specs.Found.{has_none};
 ghost use Rattle.neighbour_list.specs.Listed.{IsListOf};
 
 use crate::neighbour_list::NeighbourList;
@@ -31,13 +29,11 @@ pub fn failing_listed<S: Surface>(
     requires depth { depth ≤ DEPTH_MAX }
     requires clear { IsClearMesh (S.mesh mesh.now) }
     requires list { IsListOf (S.mesh mesh.now) list.now }
-    ensures failing { IfOk result
-        (λ pairs. pairs ≡ failing meets_exactly (S.mesh mesh.now) by.now depth) }
+    ensures failing { IfOk result (AreAllFailing (S.mesh mesh.now) by.now depth) }
     // Each pair that does not pass, and no other, in order.
     ensures all { IfOk result (AreFailing (S.mesh mesh.now) by.now depth) }
     // None fails: no pair meets on the way.
-    ensures clear { IfOk result
-        (λ pairs. pairs ≡ [] → IsClearAlong (S.mesh mesh.now) (moved_by (S.mesh mesh.now) by.now)) }
+    ensures clear { IfOk result (IsClearIfNone (S.mesh mesh.now) by.now) }
 {
     match failing_by_list(alloc, mesh, by, depth, list)? {
         Some(pairs) => Ok(pairs),
@@ -59,11 +55,9 @@ pub fn all_pass_listed<S: Surface>(
     requires depth { depth ≤ DEPTH_MAX }
     requires clear { IsClearMesh (S.mesh mesh.now) }
     requires list { IsListOf (S.mesh mesh.now) list.now }
-    ensures exact { IfOk result
-        (λ pass. pass ≡ has_none (failing meets_exactly (S.mesh mesh.now) by.now depth)) }
+    ensures exact { IfOk result (TellsWhetherAllPass (S.mesh mesh.now) by.now depth) }
     // All pass: no pair meets on the way.
-    ensures clear { IfOk result
-        (λ pass. IsTrue pass → IsClearAlong (S.mesh mesh.now) (moved_by (S.mesh mesh.now) by.now)) }
+    ensures clear { IfOk result (IsClearIfAllPass (S.mesh mesh.now) by.now) }
 {
     match all_pass_by_list(alloc, mesh, by, depth, list)? {
         Some(pass) => Ok(pass),

@@ -53,13 +53,13 @@ fn put_face<P: Paths>(refs: &mut Items<Reference>, c: &Corners, paths: &P) -> Re
 
 /// The clusters that are full, and the last one, which grows.
 #[derive(Drop)]
-struct Growing {
+struct ClusterBuilder {
     full: Items<Items<Reference>>,
     last: Items<Reference>,
 }
 
 // Puts the last cluster at the end of the full ones, and begins another.
-fn close_last(alloc: Global, all: &mut Growing) -> Result<(), NoMemory>
+fn close_last(alloc: Global, all: &mut ClusterBuilder) -> Result<(), NoMemory>
     ensures full { IsOk result → all.new.full ≡ all.old.full ++ all.old.last ∷ [] }
     ensures last { IsOk result → all.new.last ≡ [] }
 {
@@ -89,7 +89,7 @@ fn is_far<P: Paths>(refs: &[Reference], c: &Corners, paths: &P) -> bool {
 }
 
 // Begins another cluster, where the last is full.
-fn make_room(alloc: Global, all: &mut Growing, is_full: bool) -> Result<(), NoMemory>
+fn make_room(alloc: Global, all: &mut ClusterBuilder, is_full: bool) -> Result<(), NoMemory>
     ensures kept { IsOk result → (d : Corners) →
         (IsCovered all.old.full d ⊎ HasFace all.old.last d) →
         (IsCovered all.new.full d ⊎ HasFace all.new.last d) }
@@ -107,7 +107,7 @@ fn make_room(alloc: Global, all: &mut Growing, is_full: bool) -> Result<(), NoMe
 // Puts a face into the last cluster, or into another, where that has so many vertices or stands far away.
 fn put_into<P: Paths>(
     alloc: Global,
-    all: &mut Growing,
+    all: &mut ClusterBuilder,
     c: &Corners,
     size: usize,
     paths: &P,
@@ -138,7 +138,7 @@ fn clusters_along<P: Paths>(
     ensures covered { IfOk result (λ clusters. All (λ k. IsCovered clusters k.corners) placed.now) }
     ensures at { IfOk result (λ clusters. All (AreAt (P.motion paths.now).start) clusters) }
 {
-    let mut all = Growing {
+    let mut all = ClusterBuilder {
         full: Items::new(alloc),
         last: Items::new(alloc),
     };
@@ -146,7 +146,7 @@ fn clusters_along<P: Paths>(
         put_into(alloc, &mut all, &k.corners, size, paths)?;
     }
     close_last(alloc, &mut all)?;
-    let Growing { full, last: _last } = all;
+    let ClusterBuilder { full, last: _last } = all;
     Ok(full)
 }
 

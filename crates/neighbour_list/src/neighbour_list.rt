@@ -1,9 +1,7 @@
 //! The list.
 ghost use Rattle.std.specs.Prelude.{◌≡◌, ◌≤◌, IfOk};
-ghost use Rattle.std.specs.List.{All};
 ghost use Rattle.grid_base.specs.declared.TheConstants.{HALF_MAX};
-ghost use Rattle.neighbour_list.specs.Clusters.{AreAt};
-ghost use Rattle.neighbour_list.specs.Listed.{IsListOf};
+ghost use Rattle.neighbour_list.specs.Listed.{HasReferences, IsListOf};
 
 use crate::clusters::clusters_of;
 use crate::construction::near_pairs;
@@ -42,8 +40,7 @@ impl NeighbourList {
         requires { skin ≤ HALF_MAX }
         ensures list { IfOk result (IsListOf (S.mesh mesh.now)) }
         ensures skin { IfOk result (λ l. l.skin ≡ skin) }
-        ensures references { let at = (P.motion at.now).start in
-            IfOk result (λ l. All (AreAt at) l.clusters) }
+        ensures references { IfOk result (HasReferences (P.motion at.now).start) }
     {
         let known = paths_of(alloc, mesh, at)?;
         let paths = KnownPaths {

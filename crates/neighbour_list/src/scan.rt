@@ -7,6 +7,7 @@ ghost use Rattle.mesh_base.specs.Failing.{failing};
 ghost use Rattle.mesh_base.specs.Placements.{IsClearMesh};
 ghost use Rattle.mesh_base.specs.Shifts.{NameLive, end_in_box};
 ghost use Rattle.pair_paths.specs.Paths.{AreKnown};
+ghost use Rattle.pair_scan.specs.Answers.{AreAllFailing, TellsWhetherAllPass};
 ghost use Rattle.pair_scan.specs.Found.{has_none, AreFound};
 ghost use Rattle.neighbour_list.specs.Listed.{IsApart, IsListOf, fails, failing_in};
 
@@ -18,7 +19,7 @@ use crate::validity::clusters_serve;
 use grid_base::{DEPTH_MAX, NoMemory, Wide};
 use mesh_base::{ShiftOf, Shifts, Surface};
 use pair_paths::{Frame, KnownPaths, PathOf, Paths, Position, paths_of};
-use pair_scan::{Pairs, Shifted};
+use pair_scan::{Pairs, ShiftedVertices};
 use std::alloc::Global;
 
 // Whether a listed pair does not pass, by paths that are asked for.
@@ -108,7 +109,7 @@ fn failing_in<P: Paths>(
 }
 
 // The pairs of the mesh that do not pass, by the list; None where the list does not serve.
-fn scanned<S: Surface>(
+fn scan_by_list<S: Surface>(
     alloc: Global,
     mesh: &S,
     by: &[ShiftOf],
@@ -124,7 +125,7 @@ fn scanned<S: Surface>(
     ensures { IfOk result (λ o. IfSome o
         (AreFound ends_early (failing meets_exactly (S.mesh mesh.now) by.now depth))) }
 {
-    let shifted = Shifted { mesh, by };
+    let shifted = ShiftedVertices { mesh, by };
     let known = paths_of(alloc, mesh, &shifted)?;
     let paths = KnownPaths {
         paths: &shifted,
@@ -161,10 +162,9 @@ pub fn failing_by_list<S: Surface>(
     requires depth { depth ≤ DEPTH_MAX }
     requires clear { IsClearMesh (S.mesh mesh.now) }
     requires list { IsListOf (S.mesh mesh.now) list.now }
-    ensures { IfOk result (λ o. IfSome o
-        (λ pairs. pairs ≡ failing meets_exactly (S.mesh mesh.now) by.now depth)) }
+    ensures { IfOk result (λ o. IfSome o (AreAllFailing (S.mesh mesh.now) by.now depth)) }
 {
-    scanned(alloc, mesh, by.as_slice(), depth, list, false)
+    scan_by_list(alloc, mesh, by.as_slice(), depth, list, false)
 }
 
 /// Whether all pairs of a clear mesh pass where each vertex goes from its point by its shift, by a list of this mesh; None
@@ -181,10 +181,9 @@ pub fn all_pass_by_list<S: Surface>(
     requires depth { depth ≤ DEPTH_MAX }
     requires clear { IsClearMesh (S.mesh mesh.now) }
     requires list { IsListOf (S.mesh mesh.now) list.now }
-    ensures { IfOk result (λ o. IfSome o
-        (λ pass. pass ≡ has_none (failing meets_exactly (S.mesh mesh.now) by.now depth))) }
+    ensures { IfOk result (λ o. IfSome o (TellsWhetherAllPass (S.mesh mesh.now) by.now depth)) }
 {
-    match scanned(alloc, mesh, by.as_slice(), depth, list, true)? {
+    match scan_by_list(alloc, mesh, by.as_slice(), depth, list, true)? {
         Some(found) => Ok(Some(has_none(&found))),
         None => Ok(None),
     }

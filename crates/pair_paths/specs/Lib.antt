@@ -4,3 +4,4 @@ pub mod Bounds
 pub mod Pairing
 pub mod Frames
 pub mod FaceBoxes
+pub mod Laws

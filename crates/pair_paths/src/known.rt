@@ -1,7 +1,6 @@
 //! Paths of vertices that are kept in a list.
 ghost use Rattle.std.specs.Prelude.{◌≡◌, map, Contains, IfOk, IfSome};
-ghost use Rattle.std.specs.FinMap as map;
-ghost use Rattle.pair_paths.specs.Paths.{AreKnown, path_along, path_in};
+ghost use Rattle.pair_paths.specs.Paths.{AreKnown, AreAllPaths, path_along, path_in};
 
 use crate::path::{Path, Paths};
 use grid_base::{Items, NoMemory};
@@ -57,7 +56,7 @@ fn path_at(known: &[PathOf], place: usize, v: VertexId) -> Option<&Path>
 
 // The path of a vertex, if a search finds it.
 #[inline(never)]
-fn sought(known: &[PathOf], v: VertexId) -> Option<&Path>
+fn find_known(known: &[PathOf], v: VertexId) -> Option<&Path>
     ensures { IfSome result (λ path. Contains known.now (record { v = v; path = path.now })) }
 {
     match known.binary_search_by_key(&v.0, |k| k.v.0) {
@@ -74,7 +73,7 @@ pub fn known_path(known: &[PathOf], v: VertexId) -> Option<&Path>
 {
     match path_at(known, v.0.wrapping_sub(1) as usize, v) {
         Some(path) => Some(path),
-        None => sought(known, v),
+        None => find_known(known, v),
     }
 }
 
@@ -103,7 +102,7 @@ pub fn paths_of<S: Surface, P: Paths>(
     paths: &P,
 ) -> Result<Items<PathOf>, NoMemory>
     ensures known { IfOk result (AreKnown (P.motion paths.now)) }
-    ensures all { IfOk result (λ known. known ≡ map (path_in (P.motion paths.now)) (map.keys (S.mesh mesh.now).points)) }
+    ensures all { IfOk result (AreAllPaths (S.mesh mesh.now) (P.motion paths.now)) }
 {
     let ids = live_vertices(alloc, mesh)?;
     paths_among(alloc, ids.as_slice(), paths)

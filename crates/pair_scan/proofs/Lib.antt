@@ -10,3 +10,4 @@ pub mod NoneFail
 pub mod InOrder
 pub mod PairNames
 pub mod AllEnd
+pub mod MovesFit

@@ -4,3 +4,5 @@ pub mod Found
 pub mod Lookup
 pub mod Named
 pub mod Solids
+pub mod Moves
+pub mod Answers

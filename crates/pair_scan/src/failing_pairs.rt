@@ -1,14 +1,11 @@
 //! The pairs that do not pass where vertices go by shifts, and whether there is none.
-ghost use Rattle.std.specs.Prelude.{◌≡◌, ◌≤◌, [], IsTrue, IfOk};
+ghost use Rattle.std.specs.Prelude.{◌≤◌, IsTrue, IfOk};
 ghost use Rattle.grid_base.specs.declared.TheConstants.{DEPTH_MAX};
-ghost use Rattle.grid_decided.specs.Decided.{meets_exactly};
-ghost use Rattle.mesh_base.specs.Placements.{IsClearAlong};
-ghost use Rattle.mesh_base.specs.Shifts.{NameLive, end_in_box, moved_by};
-ghost use Rattle.mesh_base.specs.Failing.{failing};
+ghost use Rattle.mesh_base.specs.Shifts.{NameLive, end_in_box};
+ghost use Rattle.pair_scan.specs.Answers.{AreAllFailing, TellsWhetherAllPass, IsClearIfNone, IsClearIfAllPass};
 ghost use Rattle.pair_scan.specs.Failed.{AreFailing};
-ghost use Rattle.pair_scan.specs.Found.{has_none};
 
-use crate::motions::Shifted;
+use crate::motions::ShiftedVertices;
 use crate::scan::{Pairs, failing_in, has_none};
 use grid_base::{DEPTH_MAX, NoMemory};
 use mesh_base::{Shifts, Surface};
@@ -29,15 +26,13 @@ pub fn failing<S: Surface>(
     requires named { NameLive (S.mesh mesh.now) by.now }
     requires in_box { IsTrue (end_in_box (S.mesh mesh.now) by.now) }
     requires depth { depth ≤ DEPTH_MAX }
-    ensures failing { IfOk result
-        (λ pairs. pairs ≡ failing meets_exactly (S.mesh mesh.now) by.now depth) }
+    ensures failing { IfOk result (AreAllFailing (S.mesh mesh.now) by.now depth) }
     // Each pair that does not pass, and no other, in order.
     ensures all { IfOk result (AreFailing (S.mesh mesh.now) by.now depth) }
     // None fails: no pair meets on the way.
-    ensures clear { IfOk result
-        (λ pairs. pairs ≡ [] → IsClearAlong (S.mesh mesh.now) (moved_by (S.mesh mesh.now) by.now)) }
+    ensures clear { IfOk result (IsClearIfNone (S.mesh mesh.now) by.now) }
 {
-    let shifted = Shifted {
+    let shifted = ShiftedVertices {
         mesh,
         by: by.as_slice(),
     };
@@ -57,13 +52,11 @@ pub fn all_pass<S: Surface>(
     requires named { NameLive (S.mesh mesh.now) by.now }
     requires in_box { IsTrue (end_in_box (S.mesh mesh.now) by.now) }
     requires depth { depth ≤ DEPTH_MAX }
-    ensures exact { IfOk result
-        (λ pass. pass ≡ has_none (failing meets_exactly (S.mesh mesh.now) by.now depth)) }
+    ensures exact { IfOk result (TellsWhetherAllPass (S.mesh mesh.now) by.now depth) }
     // All pass: no pair meets on the way.
-    ensures clear { IfOk result
-        (λ pass. IsTrue pass → IsClearAlong (S.mesh mesh.now) (moved_by (S.mesh mesh.now) by.now)) }
+    ensures clear { IfOk result (IsClearIfAllPass (S.mesh mesh.now) by.now) }
 {
-    let shifted = Shifted {
+    let shifted = ShiftedVertices {
         mesh,
         by: by.as_slice(),
     };

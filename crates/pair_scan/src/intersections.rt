@@ -1,12 +1,11 @@
 //! The first pair that meets.
 ghost use Rattle.std.specs.Prelude.{◌≡◌, ◌↔◌, IfOk, IfSome, IsNone, slice_get};
-ghost use Rattle.grid_decided.specs.Decided.{meets_exactly};
-ghost use Rattle.mesh_base.specs.Placements.{rest_positions, IsClearMesh};
-ghost use Rattle.mesh_base.specs.Failing.{first_meeting};
+ghost use Rattle.mesh_base.specs.Placements.{IsClearMesh};
 ghost use Rattle.pair_paths.specs.Pairing.{name_with};
+ghost use Rattle.pair_scan.specs.Answers.{IsFirstMeeting};
 ghost use Rattle.pair_scan.specs.Scan.{do_meet, IsMeeting, NoneMeetsBefore};
 
-use crate::motions::AtRest;
+use crate::motions::RestingVertices;
 use crate::scan::Pairs;
 use grid_base::{Extent, NoMemory};
 use grid_meets::meets;
@@ -57,15 +56,13 @@ fn first_of(pairs: &Pairs) -> Option<PairName>
 /// The first pair of a mesh that meets, in order of the edge and then of the face, where its vertices stand; None exactly
 /// where the mesh is clear. Refuses only where there is no memory.
 pub fn first_meeting<S: Surface>(alloc: Global, mesh: &S) -> Result<Option<PairName>, NoMemory>
-    ensures first { IfOk result
-        (λ r. r ≡ first_meeting meets_exactly (S.mesh mesh.now)
-        (rest_positions (S.mesh mesh.now))) }
+    ensures first { IfOk result (IsFirstMeeting (S.mesh mesh.now)) }
     // None: no pair meets. Some: a pair that meets, and none that meets comes before it.
     ensures clear { IfOk result (λ r. IsNone r ↔ IsClearMesh (S.mesh mesh.now)) }
     ensures meets { IfOk result (λ r. IfSome r (IsMeeting (S.mesh mesh.now))) }
     ensures least { IfOk result (λ r. IfSome r (NoneMeetsBefore (S.mesh mesh.now))) }
 {
-    let found = told_of_mesh(alloc, &Meets, mesh, &AtRest { mesh }, &[], Some(1))?;
+    let found = told_of_mesh(alloc, &Meets, mesh, &RestingVertices { mesh }, &[], Some(1))?;
     let first = first_of(&found);
     Ok(first)
 }

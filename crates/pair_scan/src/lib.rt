@@ -7,6 +7,7 @@ mod failing_pairs;
 mod intersections;
 mod lookup;
 mod motions;
+mod moves;
 mod named;
 mod scan;
 
@@ -14,6 +15,7 @@ pub use ends::end_in_box;
 pub use failing_pairs::{all_pass, failing};
 pub use intersections::{Meets, first_meeting};
 pub use lookup::place_of;
-pub use motions::{AtRest, Shifted};
+pub use motions::{MovedVertices, RestingVertices, ShiftedVertices};
+pub use moves::Moves;
 pub use named::five_of;
 pub use scan::Pairs;

@@ -29,7 +29,7 @@ fn shift_at(by: &[ShiftOf], place: usize, v: VertexId) -> Option<Shift>
 }
 
 // The shift of a vertex, by a search; None where none is named.
-fn sought(by: &[ShiftOf], v: VertexId) -> Option<Shift>
+fn find_shift(by: &[ShiftOf], v: VertexId) -> Option<Shift>
     requires rising { IsStrictlySortedBy nat_cmp (map (λ s. s.v) by.now) }
     ensures { result ≡ option_map (λ s. s.by) (find (λ s. s.v == v) by.now) }
 {
@@ -50,7 +50,7 @@ pub(crate) fn shift_of(by: &[ShiftOf], v: VertexId) -> Option<Shift>
 {
     match shift_at(by, v.0.wrapping_sub(1) as usize, v) {
         Some(s) => Some(s),
-        None => sought(by, v),
+        None => find_shift(by, v),
     }
 }
 
@@ -66,7 +66,7 @@ fn is_place_of(by: &[ShiftOf], place: usize, v: VertexId) -> bool
 }
 
 // The place of a vertex among shifts, by a search; None where none is named.
-fn sought_place(by: &[ShiftOf], v: VertexId) -> Option<usize>
+fn find_place(by: &[ShiftOf], v: VertexId) -> Option<usize>
     requires { IsStrictlySortedBy nat_cmp (map (λ s. s.v) by.now) }
     ensures { IsPlaceOf by.now v result }
 {
@@ -89,5 +89,5 @@ pub fn place_of(by: &[ShiftOf], v: VertexId) -> Option<usize>
     if is_place_of(by, place, v) {
         return Some(place);
     }
-    sought_place(by, v)
+    find_place(by, v)
 }

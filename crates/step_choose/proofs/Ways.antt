@@ -17,10 +17,10 @@ use Rattle.step_zones.specs.declared.Zoned.{Zoned}
 use Rattle.step_zones.specs.Rounds.{round_taken}
 use Rattle.step_zones.specs.Zoned.{zoned_at}
 use Rattle.step_zones.proofs.Searched.{found_none, not_all, all_range}
-use Rattle.step_choose.specs.declared.found.Found.{Found}
+use Rattle.step_choose.specs.declared.way.StepWay.{StepWay}
 use Rattle.step_choose.specs.Impulses.{all_pass, after_passes, passes_serve, fewest_passes}
 use Rattle.step_choose.specs.Choice.{Way, way, impulse_way, round_way, zones_way}
-use Rattle.step_choose.specs.Found.{way_by}
+use Rattle.step_choose.specs.StepWay.{way_by}
 use Rattle.step_choose.proofs.Searching.{later, here}
 
 -- ---- impact zones

@@ -2,4 +2,4 @@ pub mod Settings
 pub mod Impulses
 pub mod Choice
 pub mod Chosen
-pub mod Found
+pub mod StepWay

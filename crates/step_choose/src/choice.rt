@@ -1,20 +1,20 @@
 ghost use Rattle.std.specs.Prelude.{◌≡◌, ◌≤◌, IsTrue, IfOk};
 ghost use Rattle.grid_base.specs.declared.TheConstants.{DEPTH_MAX, HALVINGS_MAX};
 ghost use Rattle.grid_decided.specs.Decided.{meets_exactly};
-ghost use Rattle.mesh_base.specs.Failing.{failing};
-ghost use Rattle.mesh_base.specs.Placements.{IsClearMesh, IsClearAlong};
-ghost use Rattle.mesh_base.specs.Shifts.{NameLive, end_in_box, moved_by};
+ghost use Rattle.mesh_base.specs.Placements.{IsClearMesh};
+ghost use Rattle.mesh_base.specs.Shifts.{NameLive, end_in_box};
+ghost use Rattle.pair_scan.specs.Answers.{AreAllFailing, IsClearOnTheWay};
 ghost use Rattle.pair_scan.specs.Solids.{SolidsRest};
-ghost use Rattle.step_choose.specs.Choice.{way_taken, IsFirstWay};
-ghost use Rattle.step_choose.specs.Chosen.{way_of};
-ghost use Rattle.step_choose.specs.Found.{way_by};
+ghost use Rattle.step_choose.specs.Choice.{way_taken};
+ghost use Rattle.step_choose.specs.Chosen.{HasHits, IsWayTaken, TakesFirstWay};
+ghost use Rattle.step_choose.specs.StepWay.{way_by};
 
 use crate::asked_pairs::asked_hits;
-use crate::found::Found;
 use crate::halved_shifts::{all_at_rest, by_halving};
 use crate::impulses::by_impulses;
 use crate::rounds::by_zones;
 use crate::settings::Settings;
+use crate::way::StepWay;
 use grid_base::{NoMemory, copy_of};
 use mesh_base::{How, Shifts, Surface};
 use pair_scan::Pairs;
@@ -44,18 +44,18 @@ fn first_way<S: Surface>(
     asked: &Shifts,
     hits: &Pairs,
     set: Settings,
-) -> Result<Found, NoMemory>
+) -> Result<StepWay, NoMemory>
     requires named { NameLive (S.mesh mesh.now) asked.now }
     requires in_box { IsTrue (end_in_box (S.mesh mesh.now) asked.now) }
     requires clear { IsClearMesh (S.mesh mesh.now) }
-    requires hits { hits.now ≡ failing meets_exactly (S.mesh mesh.now) asked.now set.depth }
+    requires hits { AreAllFailing (S.mesh mesh.now) asked.now set.depth hits.now }
     requires depth { set.depth ≤ DEPTH_MAX }
     requires halvings { set.halvings ≤ HALVINGS_MAX }
     ensures { IfOk result
         (λ found. way_by found ≡ way_taken meets_exactly (S.mesh mesh.now) asked.now set) }
 {
     if hits.len() == 0 {
-        return Ok(Found {
+        return Ok(StepWay {
             how: How::Whole,
             taken: copy_of(alloc, asked.as_slice())?,
             blocks: Blocks::new(alloc),
@@ -71,7 +71,7 @@ fn first_way<S: Surface>(
     if let Some(found) = by_halving(alloc, mesh, &near, asked, set)? {
         return Ok(found);
     }
-    Ok(Found {
+    Ok(StepWay {
         how: How::Zero,
         taken: all_at_rest(alloc, asked.as_slice())?,
         blocks: Blocks::new(alloc),
@@ -92,20 +92,16 @@ pub fn choose_by_hits<S: Surface>(
     requires in_box { IsTrue (end_in_box (S.mesh mesh.now) asked.now) }
     requires clear { IsClearMesh (S.mesh mesh.now) }
     requires solid { SolidsRest (S.mesh mesh.now) asked.now }
-    requires hits { hits ≡ failing meets_exactly (S.mesh mesh.now) asked.now set.now.depth }
+    requires hits { AreAllFailing (S.mesh mesh.now) asked.now set.now.depth hits }
     requires depth { set.now.depth ≤ DEPTH_MAX }
     requires halvings { set.now.halvings ≤ HALVINGS_MAX }
-    ensures hits { IfOk result
-        (λ c. c.hits ≡ failing meets_exactly (S.mesh mesh.now) asked.now set.now.depth) }
-    ensures way { IfOk result
-        (λ c. way_of c ≡ way_taken meets_exactly (S.mesh mesh.now) asked.now set.now) }
-    ensures first { IfOk result
-        (λ c. IsFirstWay meets_exactly (S.mesh mesh.now) asked.now set.now c.how c.taken) }
+    ensures hits { IfOk result (HasHits (S.mesh mesh.now) asked.now set.now) }
+    ensures way { IfOk result (IsWayTaken (S.mesh mesh.now) asked.now set.now) }
+    ensures first { IfOk result (TakesFirstWay (S.mesh mesh.now) asked.now set.now) }
 
     // The shifts taken name the live vertices, end in the box, leave solid vertices where they are, and keep the mesh clear
     // at every fraction.
-    ensures clear_along { IfOk result
-        (λ c. IsClearAlong (S.mesh mesh.now) (moved_by (S.mesh mesh.now) c.taken)) }
+    ensures clear_along { IfOk result (λ c. IsClearOnTheWay (S.mesh mesh.now) c.taken) }
     ensures names { IfOk result (λ c. NameLive (S.mesh mesh.now) c.taken) }
     ensures ends { IfOk result (λ c. IsTrue (end_in_box (S.mesh mesh.now) c.taken)) }
     ensures solid { IfOk result (λ c. SolidsRest (S.mesh mesh.now) c.taken) }
@@ -141,17 +137,13 @@ pub fn choose<S: Surface>(
     requires solid { SolidsRest (S.mesh mesh.now) asked.now }
     requires depth { set.now.depth ≤ DEPTH_MAX }
     requires halvings { set.now.halvings ≤ HALVINGS_MAX }
-    ensures hits { IfOk result
-        (λ c. c.hits ≡ failing meets_exactly (S.mesh mesh.now) asked.now set.now.depth) }
-    ensures way { IfOk result
-        (λ c. way_of c ≡ way_taken meets_exactly (S.mesh mesh.now) asked.now set.now) }
-    ensures first { IfOk result
-        (λ c. IsFirstWay meets_exactly (S.mesh mesh.now) asked.now set.now c.how c.taken) }
+    ensures hits { IfOk result (HasHits (S.mesh mesh.now) asked.now set.now) }
+    ensures way { IfOk result (IsWayTaken (S.mesh mesh.now) asked.now set.now) }
+    ensures first { IfOk result (TakesFirstWay (S.mesh mesh.now) asked.now set.now) }
 
     // The shifts taken name the live vertices, end in the box, leave solid vertices where they are, and keep the mesh clear
     // at every fraction.
-    ensures clear_along { IfOk result
-        (λ c. IsClearAlong (S.mesh mesh.now) (moved_by (S.mesh mesh.now) c.taken)) }
+    ensures clear_along { IfOk result (λ c. IsClearOnTheWay (S.mesh mesh.now) c.taken) }
     ensures names { IfOk result (λ c. NameLive (S.mesh mesh.now) c.taken) }
     ensures ends { IfOk result (λ c. IsTrue (end_in_box (S.mesh mesh.now) c.taken)) }
     ensures solid { IfOk result (λ c. SolidsRest (S.mesh mesh.now) c.taken) }

@@ -5,11 +5,11 @@ ghost use Rattle.grid_decided.specs.Decided.{meets_exactly};
 ghost use Rattle.mesh_base.specs.Placements.{IsClearMesh};
 ghost use Rattle.mesh_base.specs.Shifts.{NameLive, end_in_box};
 ghost use Rattle.step_choose.specs.Choice.{halved_times, all_at_rest, halved_way};
-ghost use Rattle.step_choose.specs.Found.{way_by};
+ghost use Rattle.step_choose.specs.StepWay.{way_by};
 ghost use Rattle.step_lists.specs.Compared.{IsOfMesh};
 
-use crate::found::Found;
 use crate::settings::Settings;
+use crate::way::StepWay;
 use grid_base::{NO_SHIFT, NoMemory, halved};
 use mesh_base::{How, ShiftOf, Shifts, Surface};
 use std::alloc::Global;
@@ -52,7 +52,7 @@ pub(crate) fn by_halving<S: Surface>(
     near: &ListOfMesh<'_>,
     asked: &Shifts,
     set: Settings,
-) -> Result<Option<Found>, NoMemory>
+) -> Result<Option<StepWay>, NoMemory>
     requires named { NameLive (S.mesh mesh.now) asked.now }
     requires in_box { IsTrue (end_in_box (S.mesh mesh.now) asked.now) }
     requires clear { IsClearMesh (S.mesh mesh.now) }
@@ -68,7 +68,7 @@ pub(crate) fn by_halving<S: Surface>(
         let taken = halved_times(alloc, asked.as_slice(), times)?;
         let pass = near.all_pass(alloc, mesh, &taken, set.depth)?;
         if pass {
-            return Ok(Some(Found {
+            return Ok(Some(StepWay {
                 how: How::Halved { times },
                 taken,
                 blocks: Blocks::new(alloc),

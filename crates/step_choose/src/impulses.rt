@@ -6,11 +6,11 @@ ghost use Rattle.mesh_base.specs.Failing.{failing};
 ghost use Rattle.mesh_base.specs.Placements.{IsClearMesh};
 ghost use Rattle.mesh_base.specs.Shifts.{NameLive, end_in_box};
 ghost use Rattle.step_choose.specs.Choice.{impulse_way};
-ghost use Rattle.step_choose.specs.Found.{way_by};
+ghost use Rattle.step_choose.specs.StepWay.{way_by};
 ghost use Rattle.step_lists.specs.Compared.{IsOfMesh};
 
-use crate::found::Found;
 use crate::settings::Settings;
+use crate::way::StepWay;
 use grid_base::{NoMemory, copy_of};
 use mesh_base::{How, Shifts, Surface};
 use pair_scan::{Pairs, end_in_box};
@@ -28,7 +28,7 @@ pub(crate) fn by_impulses<S: Surface>(
     asked: &Shifts,
     hits: &Pairs,
     set: Settings,
-) -> Result<Option<Found>, NoMemory>
+) -> Result<Option<StepWay>, NoMemory>
     requires named { NameLive (S.mesh mesh.now) asked.now }
     requires clear { IsClearMesh (S.mesh mesh.now) }
     requires of_mesh { IsOfMesh (S.mesh mesh.now) near.now }
@@ -47,7 +47,7 @@ pub(crate) fn by_impulses<S: Surface>(
         }
         failed = near.failing(alloc, mesh, &taken, set.depth)?;
         if failed.len() == 0 {
-            return Ok(Some(Found {
+            return Ok(Some(StepWay {
                 how: How::Impulse { passes: k + 1 },
                 taken,
                 blocks: Blocks::new(alloc),

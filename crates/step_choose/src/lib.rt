@@ -4,12 +4,12 @@
 
 mod asked_pairs;
 mod choice;
-mod found;
 mod halved_shifts;
 mod impulses;
-mod near;
+mod list_source;
 mod rounds;
 mod settings;
+mod way;
 
 pub use asked_pairs::asked_hits;
 pub use choice::{Choice, choose, choose_by_hits};

@@ -6,12 +6,12 @@ ghost use Rattle.mesh_base.specs.Failing.{failing};
 ghost use Rattle.mesh_base.specs.Placements.{IsClearMesh};
 ghost use Rattle.mesh_base.specs.Shifts.{NameLive};
 ghost use Rattle.step_choose.specs.Choice.{zones_way};
-ghost use Rattle.step_choose.specs.Found.{way_by};
+ghost use Rattle.step_choose.specs.StepWay.{way_by};
 ghost use Rattle.step_lists.specs.Compared.{IsOfMesh};
 
-use crate::found::Found;
-use crate::near::Near;
+use crate::list_source::ListSource;
 use crate::settings::Settings;
+use crate::way::StepWay;
 use grid_base::NoMemory;
 use mesh_base::{How, Shifts, Surface};
 use pair_scan::Pairs;
@@ -28,7 +28,7 @@ pub(crate) fn by_zones<S: Surface>(
     asked: &Shifts,
     hits: &Pairs,
     set: Settings,
-) -> Result<Option<Found>, NoMemory>
+) -> Result<Option<StepWay>, NoMemory>
     requires named { NameLive (S.mesh mesh.now) asked.now }
     requires clear { IsClearMesh (S.mesh mesh.now) }
     requires of_mesh { IsOfMesh (S.mesh mesh.now) near.now }
@@ -41,14 +41,14 @@ pub(crate) fn by_zones<S: Surface>(
     if !set.zones {
         return Ok(None);
     }
-    let near = Near {
+    let near = ListSource {
         list: *near,
         asked: asked.as_slice(),
         hits: hits.as_slice(),
         depth: set.depth,
     };
     match zones_told(alloc, mesh, &near, asked, set.depth)? {
-        Some(round) => Ok(Some(Found {
+        Some(round) => Ok(Some(StepWay {
             how: How::Zones {
                 rounds: round.rounds,
             },

@@ -1,11 +1,12 @@
 -- Impulses: what the five vertices of a pair get on one axis.
-use Rattle.std.specs.Prelude.{ℕ, ◌||◌, Bool, false, List, [], ◌∷◌, nat_lt, ℤ, pos, ◌+ℤ◌, ◌-ℤ◌, ◌*ℤ◌, int_lt, if◌then◌else◌, slice_index_or}
+use Rattle.std.specs.Prelude.{◌≡◌, ℕ, ◌||◌, Bool, map, false, List, [], ◌∷◌, nat_lt, ℤ, pos, ◌+ℤ◌, ◌-ℤ◌, ◌*ℤ◌, int_lt, if◌then◌else◌, slice_index_or}
 use Rattle.std.specs.Int.{int_min, int_max, int_div_euclid}
 use Rattle.std.specs.List.{fold, count_by}
 use Rattle.grid_base.specs.declared.Point.{Point}
 use Rattle.grid_base.specs.declared.Positions.{Positions}
+use Rattle.grid_base.specs.declared.Shift.{Shift}
 use Rattle.grid_base.specs.Triples.{Triple}
-use Rattle.grid_base.specs.Points.{position_of, point_at_origin}
+use Rattle.grid_base.specs.Points.{position_of, displacement_of, point_at_origin}
 use Rattle.step_impulse.specs.declared.axis.Axis.{Axis}
 use Rattle.step_impulse.specs.declared.axis.Axis.TheVariants.{X, Y, Z}
 use Rattle.step_impulse.specs.Axes.{component, with_component}
@@ -83,3 +84,8 @@ abbrev pub after_impulse : Positions → List ℕ → List Bool → List Triple 
 after_impulse f ids fixed shifts =
     let axis = widest_axis f in
     each_given axis (given (some_fixed fixed) (sum_on axis shifts) ids) ids shifts
+
+-- the new shifts are the old ones after the impulse on vertices at these points
+abbrev pub IsAfterImpulse : List Point → List ℕ → List Bool → List Shift → List Shift → Type 0
+IsAfterImpulse ps ids fixed old new =
+    map displacement_of new ≡ after_impulse (places_of ps) ids fixed (map displacement_of old)

@@ -6,8 +6,8 @@ ghost use Rattle.mesh_base.specs.Mesh.{is_solid};
 ghost use Rattle.mesh_base.specs.Placements.{rest_positions};
 ghost use Rattle.mesh_base.specs.Shifts.{NameLive, shift_at};
 ghost use Rattle.pair_scan.specs.Solids.{SolidsStay};
-ghost use Rattle.pair_scan.specs.Named.{pair_named, pairs_named};
-ghost use Rattle.step_impulse.specs.Passes.{with_shift_of, with_shifts_of, after_pair, after_pass};
+ghost use Rattle.pair_scan.specs.Named.{pair_named};
+ghost use Rattle.step_impulse.specs.Passes.{with_shift_of, with_shifts_of, after_pair, IsAfterPass};
 
 use crate::impulse::axis_impulse;
 use grid_base::{NO_SHIFT, Point, Shift};
@@ -110,8 +110,7 @@ fn impulse_on<S: Surface>(mesh: &S, name: &PairName, shifts: &mut Shifts)
 /// Bridson 2009).
 pub fn impulse_pass<S: Surface>(mesh: &S, hits: &Pairs, shifts: &mut Shifts)
     requires { NameLive (S.mesh mesh.now) shifts.old }
-    ensures after { shifts.new ≡ after_pass (S.mesh mesh.now)
-        (pairs_named (S.mesh mesh.now) hits.now) shifts.old }
+    ensures after { IsAfterPass (S.mesh mesh.now) hits.now shifts.old shifts.new }
     ensures names { NameLive (S.mesh mesh.now) shifts.new }
     // A solid vertex that had no shift has none.
     ensures solid { SolidsStay (S.mesh mesh.now) shifts.old shifts.new }

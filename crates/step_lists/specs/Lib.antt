@@ -1,3 +1,3 @@
 pub mod Among
-pub mod Arrived
+pub mod EndPositions
 pub mod Compared

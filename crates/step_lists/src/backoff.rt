@@ -6,17 +6,17 @@ const STEPS_LEAST: u32 = 3;
 /// How many steps a list has served, how many scans go by before the next is tried, and the next id of a face at the scan
 /// before.
 #[derive(Clone, Copy, Debug)]
-pub(crate) struct Waiting {
+pub(crate) struct Backoff {
     served: u32,
     wait: u32,
     left: u32,
     seen: u32,
 }
 
-impl Waiting {
+impl Backoff {
     /// Nothing is waited for, and nothing was scanned.
-    pub(crate) fn none() -> Waiting {
-        Waiting {
+    pub(crate) fn none() -> Backoff {
+        Backoff {
             served: 0,
             wait: 0,
             left: 0,

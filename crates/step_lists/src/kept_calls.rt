@@ -1,14 +1,11 @@
 //! The making of a list that is kept, and its use.
 ghost use Rattle.std.specs.Prelude.{◌≡◌, ◌≤◌, IsTrue, IfOk, IfSome};
-ghost use Rattle.std.specs.List.{All};
 ghost use Rattle.std.specs.FinMap as finite;
 ghost use Rattle.grid_base.specs.declared.TheConstants.{DEPTH_MAX, HALF_MAX};
-ghost use Rattle.grid_decided.specs.Decided.{meets_exactly};
-ghost use Rattle.mesh_base.specs.Failing.{failing};
 ghost use Rattle.mesh_base.specs.Placements.{IsClearMesh};
 ghost use Rattle.mesh_base.specs.Shifts.{NameLive, end_in_box};
-ghost use Rattle.neighbour_list.specs.Clusters.{AreAt};
-ghost use Rattle.neighbour_list.specs.Listed.{IsListOf};
+ghost use Rattle.pair_scan.specs.Answers.{AreAllFailing};
+ghost use Rattle.neighbour_list.specs.Listed.{HasReferences, IsListOf};
 
 use crate::faces::{are_same, faces_of};
 use crate::kept::KeptList;
@@ -35,8 +32,7 @@ impl KeptList {
             (λ kept. kept.vertices ≡ finite.keys (S.mesh mesh.now).points) }
         ensures faces { IfOk result (λ kept. kept.faces ≡ finite.entries (S.mesh mesh.now).faces) }
         ensures skin { IfOk result (λ kept. kept.list.skin ≡ skin) }
-        ensures references { let at = (P.motion at.now).start in
-            IfOk result (λ kept. All (AreAt at) kept.list.clusters) }
+        ensures references { IfOk result (λ kept. HasReferences (P.motion at.now).start kept.list) }
     {
         let vertices = live_vertices(alloc, mesh)?;
         let faces = faces_of(alloc, mesh)?;
@@ -74,8 +70,7 @@ impl KeptList {
         requires in_box { IsTrue (end_in_box (S.mesh mesh.now) by.now) }
         requires depth { depth ≤ DEPTH_MAX }
         requires clear { IsClearMesh (S.mesh mesh.now) }
-        ensures { IfOk result (λ o. IfSome o
-            (λ pairs. pairs ≡ failing meets_exactly (S.mesh mesh.now) by.now depth)) }
+        ensures { IfOk result (λ o. IfSome o (AreAllFailing (S.mesh mesh.now) by.now depth)) }
     {
         let is = self.is_of(alloc, mesh)?;
         if !is {

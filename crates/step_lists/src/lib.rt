@@ -2,8 +2,8 @@
 #![tactic(auto)]
 
 mod ahead;
-mod arrived;
 mod backoff;
+mod end_positions;
 mod faces;
 mod kept;
 mod kept_calls;

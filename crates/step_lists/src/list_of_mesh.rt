@@ -1,11 +1,9 @@
 //! The pairs that do not pass, by a list that was compared with the mesh.
-ghost use Rattle.std.specs.Prelude.{◌≡◌, ◌≤◌, IsTrue, IfOk};
+ghost use Rattle.std.specs.Prelude.{◌≤◌, IsTrue, IfOk};
 ghost use Rattle.grid_base.specs.declared.TheConstants.{DEPTH_MAX};
-ghost use Rattle.grid_decided.specs.Decided.{meets_exactly};
-ghost use Rattle.mesh_base.specs.Failing.{failing};
 ghost use Rattle.mesh_base.specs.Placements.{IsClearMesh};
 ghost use Rattle.mesh_base.specs.Shifts.{NameLive, end_in_box};
-ghost use Rattle.pair_scan.specs.Found.{has_none};
+ghost use Rattle.pair_scan.specs.Answers.{AreAllFailing, TellsWhetherAllPass};
 ghost use Rattle.step_lists.specs.Compared.{IsOfMesh};
 
 use crate::kept::KeptList;
@@ -39,8 +37,7 @@ impl<'a> ListOfMesh<'a> {
         requires depth { depth ≤ DEPTH_MAX }
         requires clear { IsClearMesh (S.mesh mesh.now) }
         requires of_mesh { IsOfMesh (S.mesh mesh.now) self.now }
-        ensures failing { IfOk result
-            (λ pairs. pairs ≡ failing meets_exactly (S.mesh mesh.now) by.now depth) }
+        ensures failing { IfOk result (AreAllFailing (S.mesh mesh.now) by.now depth) }
     {
         match self.kept {
             Some(kept) => failing_listed(alloc, mesh, by, depth, &kept.list),
@@ -63,8 +60,7 @@ impl<'a> ListOfMesh<'a> {
         requires depth { depth ≤ DEPTH_MAX }
         requires clear { IsClearMesh (S.mesh mesh.now) }
         requires of_mesh { IsOfMesh (S.mesh mesh.now) self.now }
-        ensures exact { IfOk result
-            (λ pass. pass ≡ has_none (failing meets_exactly (S.mesh mesh.now) by.now depth)) }
+        ensures exact { IfOk result (TellsWhetherAllPass (S.mesh mesh.now) by.now depth) }
     {
         match self.kept {
             Some(kept) => all_pass_listed(alloc, mesh, by, depth, &kept.list),
@@ -74,7 +70,7 @@ impl<'a> ListOfMesh<'a> {
 }
 
 /// The list, if it is one of this mesh.
-pub(crate) fn compared<'a, S: Surface>(
+pub(crate) fn compare<'a, S: Surface>(
     alloc: Global,
     kept: &'a KeptList,
     mesh: &S,

@@ -1,22 +1,21 @@
 //! The list that is kept from step to step.
-ghost use Rattle.std.specs.Prelude.{◌≡◌, ◌≤◌, IsTrue, IfOk, IfSome};
+ghost use Rattle.std.specs.Prelude.{◌≤◌, IsTrue, IfOk, IfSome};
 ghost use Rattle.grid_base.specs.declared.TheConstants.{DEPTH_MAX};
-ghost use Rattle.grid_decided.specs.Decided.{meets_exactly};
-ghost use Rattle.mesh_base.specs.Failing.{failing};
 ghost use Rattle.mesh_base.specs.Placements.{IsClearMesh};
 ghost use Rattle.mesh_base.specs.Shifts.{NameLive, end_in_box};
+ghost use Rattle.pair_scan.specs.Answers.{AreAllFailing};
 ghost use Rattle.neighbour_list.specs.Listed.{IsListOf};
 ghost use Rattle.step_lists.specs.Compared.{IsOfMesh};
 
 use crate::ahead::skin_ahead;
-use crate::arrived::Arrived;
-use crate::backoff::Waiting;
+use crate::backoff::Backoff;
+use crate::end_positions::EndPositions;
 use crate::kept::KeptList;
-use crate::list_of_mesh::{ListOfMesh, compared};
+use crate::list_of_mesh::{ListOfMesh, compare};
 use grid_base::{DEPTH_MAX, NoMemory};
 use mesh_base::{Shifts, Surface};
 use neighbour_list::failing_by_list;
-use pair_scan::{Pairs, Shifted, failing};
+use pair_scan::{Pairs, ShiftedVertices, failing};
 use std::alloc::Global;
 use std::marker::Model;
 use step_near::all_pass_near;
@@ -27,7 +26,7 @@ use step_near::all_pass_near;
 #[derive(Drop)]
 pub struct StepLists {
     kept: Option<KeptList>,
-    waiting: Waiting,
+    backoff: Backoff,
 }
 
 impl Model for StepLists {
@@ -48,8 +47,7 @@ fn failing_by_kept<S: Surface>(
     requires in_box { IsTrue (end_in_box (S.mesh mesh.now) by.now) }
     requires depth { depth ≤ DEPTH_MAX }
     requires clear { IsClearMesh (S.mesh mesh.now) }
-    ensures { IfOk result (λ o. IfSome o
-        (λ pairs. pairs ≡ failing meets_exactly (S.mesh mesh.now) by.now depth)) }
+    ensures { IfOk result (λ o. IfSome o (AreAllFailing (S.mesh mesh.now) by.now depth)) }
 {
     match kept {
         Some(kept) => kept.failing_by(alloc, mesh, by, depth),
@@ -70,12 +68,12 @@ fn list_ahead<S: Surface>(
     let Some(skin) = skin_ahead(alloc, mesh, by.as_slice())? else {
         return Ok(None);
     };
-    let shifted = Shifted {
+    let shifted = ShiftedVertices {
         mesh,
         by: by.as_slice(),
     };
-    let arrived = Arrived { paths: &shifted };
-    let kept = KeptList::of(alloc, mesh, &arrived, skin)?;
+    let ends = EndPositions { paths: &shifted };
+    let kept = KeptList::of(alloc, mesh, &ends, skin)?;
     Ok(Some(kept))
 }
 
@@ -84,7 +82,7 @@ impl StepLists {
     pub fn none() -> StepLists {
         StepLists {
             kept: None,
-            waiting: Waiting::none(),
+            backoff: Backoff::none(),
         }
     }
 
@@ -94,7 +92,7 @@ impl StepLists {
         ensures { IfOk result (IsOfMesh (S.mesh mesh.now)) }
     {
         match &self.kept {
-            Some(kept) => compared(alloc, kept, mesh),
+            Some(kept) => compare(alloc, kept, mesh),
             None => Ok(ListOfMesh { kept: None }),
         }
     }
@@ -102,7 +100,7 @@ impl StepLists {
     // The list, if there was one, serves no more.
     fn forget(&mut self) {
         if self.kept.is_some() {
-            self.waiting.end();
+            self.backoff.end();
         }
         self.kept = None;
     }
@@ -121,10 +119,9 @@ impl StepLists {
         requires in_box { IsTrue (end_in_box (S.mesh mesh.now) by.now) }
         requires depth { depth ≤ DEPTH_MAX }
         requires clear { IsClearMesh (S.mesh mesh.now) }
-        ensures { IfOk result (λ o. IfSome o
-            (λ pairs. pairs ≡ failing meets_exactly (S.mesh mesh.now) by.now depth)) }
+        ensures { IfOk result (λ o. IfSome o (AreAllFailing (S.mesh mesh.now) by.now depth)) }
     {
-        if !self.waiting.is_over(mesh.next_face()) {
+        if !self.backoff.is_over(mesh.next_face()) {
             return Ok(None);
         }
         let Ok(Some(kept)) = list_ahead(alloc, mesh, by) else {
@@ -132,7 +129,7 @@ impl StepLists {
         };
         let pairs = failing_by_list(alloc, mesh, by, depth, &kept.list)?;
         self.kept = Some(kept);
-        self.waiting.begin();
+        self.backoff.begin();
         Ok(pairs)
     }
 
@@ -148,16 +145,15 @@ impl StepLists {
         requires in_box { IsTrue (end_in_box (S.mesh mesh.now) by.now) }
         requires depth { depth ≤ DEPTH_MAX }
         requires clear { IsClearMesh (S.mesh mesh.now) }
-        ensures { IfOk result
-            (λ pairs. pairs ≡ failing meets_exactly (S.mesh mesh.now) by.now depth) }
+        ensures { IfOk result (AreAllFailing (S.mesh mesh.now) by.now depth) }
     {
         if let Some(pairs) = failing_by_kept(alloc, &self.kept, mesh, by, depth)? {
-            self.waiting.serve();
+            self.backoff.serve();
             return Ok(pairs);
         }
         self.forget();
         if let Some(pairs) = self.failing_by_new(alloc, mesh, by, depth)? {
-            self.waiting.serve();
+            self.backoff.serve();
             return Ok(pairs);
         }
         failing(alloc, mesh, by, depth)
@@ -178,8 +174,7 @@ impl StepLists {
         requires in_box { IsTrue (end_in_box (S.mesh mesh.now) asked.now) }
         requires clear { IsClearMesh (S.mesh mesh.now) }
         requires depth { depth ≤ DEPTH_MAX }
-        ensures { IfOk result
-            (λ hits. hits ≡ failing meets_exactly (S.mesh mesh.now) asked.now depth) }
+        ensures { IfOk result (AreAllFailing (S.mesh mesh.now) asked.now depth) }
     {
         if all_pass_near(alloc, mesh, asked, depth)? {
             return Ok(Pairs::new(alloc));

@@ -1,12 +1,10 @@
 //! Whether all pairs pass in a step, as is seen near the few vertices that it asks to move.
-ghost use Rattle.std.specs.Prelude.{◌≡◌, ◌≤◌, ◌&&◌, [], IsTrue, IfOk};
+ghost use Rattle.std.specs.Prelude.{◌≤◌, IsTrue, IfOk};
 ghost use Rattle.grid_base.specs.declared.TheConstants.{DEPTH_MAX};
-ghost use Rattle.grid_decided.specs.Decided.{meets_exactly};
-ghost use Rattle.mesh_base.specs.Failing.{failing};
 ghost use Rattle.mesh_base.specs.Placements.{IsClearMesh};
 ghost use Rattle.mesh_base.specs.Shifts.{NameLive, end_in_box};
-ghost use Rattle.pair_scan.specs.Found.{has_none};
-ghost use Rattle.step_near.specs.Few.{are_few};
+ghost use Rattle.pair_scan.specs.Answers.{TellsWhetherAllPass};
+ghost use Rattle.step_near.specs.Few.{TellsWhetherFewPass, NoneFailsIfFewPass};
 
 use crate::few::are_few;
 use crate::moves::moves_by;
@@ -42,8 +40,7 @@ fn none_fails<S: Surface>(
     requires in_box { IsTrue (end_in_box (S.mesh mesh.now) asked.now) }
     requires clear { IsClearMesh (S.mesh mesh.now) }
     requires depth { depth ≤ DEPTH_MAX }
-    ensures { IfOk result
-        (λ pass. pass ≡ has_none (failing meets_exactly (S.mesh mesh.now) asked.now depth)) }
+    ensures { IfOk result (TellsWhetherAllPass (S.mesh mesh.now) asked.now depth) }
 {
     let moves = moves_by(alloc, mesh, asked.as_slice())?;
     let is_near = have_few_faces(alloc, mesh, moves.as_slice())?;
@@ -80,11 +77,9 @@ pub fn all_pass_near<S: Surface>(
     requires in_box { IsTrue (end_in_box (S.mesh mesh.now) asked.now) }
     requires clear { IsClearMesh (S.mesh mesh.now) }
     requires depth { depth ≤ DEPTH_MAX }
-    ensures exact { IfOk result (λ pass. pass ≡ (are_few asked.now
-        && has_none (failing meets_exactly (S.mesh mesh.now) asked.now depth))) }
+    ensures exact { IfOk result (TellsWhetherFewPass (S.mesh mesh.now) asked.now depth) }
     // All pass: no pair is among those that do not.
-    ensures none { IfOk result (λ pass. IsTrue pass →
-        failing meets_exactly (S.mesh mesh.now) asked.now depth ≡ []) }
+    ensures none { IfOk result (NoneFailsIfFewPass (S.mesh mesh.now) asked.now depth) }
 {
     if !are_few(asked.as_slice()) {
         return Ok(false);

@@ -12,7 +12,7 @@ use crate::meshes::{beside, many};
 use crate::same::assert_same;
 use grid_base::{NoMemory, Shift, moved};
 use mesh_base::{FaceId, ShiftOf, Shifts, Surface, VertexId, live_vertices};
-use pair_scan::{AtRest, first_meeting};
+use pair_scan::{RestingVertices, first_meeting};
 use std::alloc::Global;
 use std::process::Abort;
 use std::test::Fail;
@@ -139,7 +139,7 @@ fn assert_drift<S: Surface>(
 #[test]
 fn a_list_serves_while_vertices_drift_alike(rt: HostRuntime) -> Result<(), Fail> {
     let mut mesh = beside(rt.alloc(), 0, &rt)?;
-    let kept = KeptList::of(rt.alloc(), &mesh, &AtRest { mesh: &mesh }, 8)?;
+    let kept = KeptList::of(rt.alloc(), &mesh, &RestingVertices { mesh: &mesh }, 8)?;
     assert_drift(rt.alloc(), &kept, &mut mesh, &rt)?;
     Ok(())
 }

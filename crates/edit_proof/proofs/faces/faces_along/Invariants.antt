@@ -6,4 +6,4 @@ use Rattle.edit_proof.proofs.faces.faces_along.Given as goal
 abbrev pub invariant-loop-f : goal.invariant-loop-f
 invariant-loop-f g l =
     let m = g.S.Surface.mesh l.going.mesh.now in
-    l.faces ++ faces_among m l.going.ways.now (drop l.f-index l.ids) ≡ faces_among m l.going.ways.now l.ids
+    l.faces ++ faces_among m l.going.moves.now (drop l.f-index l.ids) ≡ faces_among m l.going.moves.now l.ids

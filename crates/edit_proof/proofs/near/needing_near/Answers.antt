@@ -10,7 +10,7 @@ use Rattle.edit_proof.proofs.near.needing_near.Goals as goal
 pub returns : goal.returns
 returns g c =
     let m = g.S.Surface.mesh c.args.going.now.mesh.now in
-    let ways = c.args.going.now.ways.now in
+    let ways = c.args.going.now.moves.now in
     let reach = c.in_ok-reach.reach in
     let near : c.as_slice.result.now ≡ faces_in_reach m reach = c.as_slice.ensures.value ∙ c.in_ok-find_near.ensures in
     let again : c.as_slice-2.result.now ≡ faces_in_reach m reach = c.as_slice-2.ensures.value ∙ c.in_ok-find_near.ensures in

@@ -12,7 +12,7 @@ loop-f-init g c = record { reached = λ k d lt. absurd (omega arith); kept = as_
 pub loop-f-preserved : goal.loop-f-preserved
 loop-f-preserved g c =
     let m = g.S.Surface.mesh c.args.going.now.mesh.now in
-    let ways = c.args.going.now.ways.now in
+    let ways = c.args.going.now.moves.now in
     let faces = c.args.faces.now in
     let i = c.loop-f.f-index in
     let new = c.reach_face-wide.result in
@@ -24,7 +24,7 @@ loop-f-preserved g c =
 pub returns-clause-reaches : goal.returns-clause-reaches
 returns-clause-reaches g c =
     let m = g.S.Surface.mesh c.args.going.now.mesh.now in
-    subst (All (Reaches m c.args.going.now.ways.now c.loop-f.wide)) (take_all c.loop-f.f-index c.args.faces.now c.loop-f-test.false) c.loop-f.invariant.reached
+    subst (All (Reaches m c.args.going.now.moves.now c.loop-f.wide)) (take_all c.loop-f.f-index c.args.faces.now c.loop-f-test.false) c.loop-f.invariant.reached
 
 pub returns-clause-keeps : goal.returns-clause-keeps
 returns-clause-keeps g c = c.loop-f.invariant.kept

@@ -5,4 +5,4 @@ use Rattle.edit_proof.proofs.reach.reach_faces.Given as goal
 
 -- the box has those so far, and what it had at first
 abbrev pub invariant-loop-f : goal.invariant-loop-f
-invariant-loop-f g l = let m = g.S.Surface.mesh l.going.mesh.now in record { reached : All (Reaches m l.going.ways.now l.wide) (take l.f-index l.faces); kept : Widens l.fn.reach l.wide }
+invariant-loop-f g l = let m = g.S.Surface.mesh l.going.mesh.now in record { reached : All (Reaches m l.going.moves.now l.wide) (take l.f-index l.faces); kept : Widens l.fn.reach l.wide }

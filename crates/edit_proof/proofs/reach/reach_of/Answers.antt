@@ -10,7 +10,7 @@ use Rattle.edit_proof.proofs.reach.reach_of.Goals as goal
 pub returns : goal.returns
 returns g c =
     let m = g.S.Surface.mesh c.args.going.now.mesh.now in
-    let ways = c.args.going.now.ways.now in
+    let ways = c.args.going.now.moves.now in
     let fresh : c.as_slice.result.now ≡ above (c.args.fresh_from - 1) (map.keys m.faces) = c.as_slice.ensures ∙ c.in_ok-fresh.ensures ∙ ap (λ k. above k (map.keys m.faces)) c.saturating_sub.ensures in
     let all = c.in_ok-all.all in
     let new = all_reached_more m ways c.reach_faces-new.result all c.as_slice.result.now c.in_ok-all.ensures.keeps c.reach_faces-new.ensures.reaches in

@@ -15,7 +15,7 @@ loop-way-init g c = record { reached = λ k d lt. absurd (omega arith); kept = a
 pub loop-way-preserved : goal.loop-way-preserved
 loop-way-preserved g c =
     let m = g.S.Surface.mesh c.args.going.now.mesh.now in
-    let ways = c.args.going.now.ways.now in
+    let ways = c.args.going.now.moves.now in
     let i = c.loop-way.way-index in
     let new = c.in_ok-wide.wide in
     let P : Move → Type 0 = λ way. All (Reaches m ways new) (faces_at m way.v) in
@@ -27,7 +27,7 @@ loop-way-preserved g c =
 pub returns-clause-reaches : goal.returns-clause-reaches
 returns-clause-reaches g c =
     let m = g.S.Surface.mesh c.args.going.now.mesh.now in
-    let ways = c.args.going.now.ways.now in
+    let ways = c.args.going.now.moves.now in
     subst (All (λ way. All (Reaches m ways c.loop-way.wide) (faces_at m way.v))) (take_all c.loop-way.way-index ways c.loop-way-test.false) c.loop-way.invariant.reached
 
 pub returns-clause-keeps : goal.returns-clause-keeps

@@ -8,5 +8,5 @@ use Rattle.edit_proof.proofs.reach.reach_ways.Given as goal
 abbrev pub invariant-loop-way : goal.invariant-loop-way
 invariant-loop-way g l =
     let m = g.S.Surface.mesh l.going.mesh.now in
-    let ways = l.going.ways.now in
+    let ways = l.going.moves.now in
     record { reached : All (λ way. All (Reaches m ways l.wide) (faces_at m way.v)) (take l.way-index ways); kept : Widens l.fn.reach l.wide }

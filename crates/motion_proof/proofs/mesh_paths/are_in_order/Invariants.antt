@@ -1,7 +1,0 @@
-use Rattle.std.proofs.Common.{ℕ, ◌+◌, ◌<◌, get_or}
-use Rattle.edit_base.specs.declared.Move.{Move as Way}
-use Rattle.motion_proof.proofs.mesh_paths.are_in_order.Given as goal
-
--- each id so far is below the next
-abbrev pub invariant-loop-i : goal.invariant-loop-i
-invariant-loop-i l = (k : ℕ) (d : Way) → k + 1 < l.i → (get_or l.ways k d).v < (get_or l.ways (k + 1) d).v
