@@ -2,7 +2,8 @@
 ghost use Rattle.std.specs.Prelude.{IfOk};
 ghost use Rattle.motion_proof.specs.Acceptance.{AreWays};
 ghost use Rattle.edit_check.specs.Untouched.{IsClearWhereUntouched};
-ghost use Rattle.edit_proof.specs.Near.{IsMadeNear, IsAcceptedNear, IsVerdictNear, AcceptsExactly, AcceptsClear};
+ghost use Rattle.motion_proof.specs.OfWays.{IsMadeOfWays, IsAcceptedIfMadeOfWays};
+ghost use Rattle.motion_proof.specs.OfWays.{IsVerdictOfWays, AcceptsExactly, IsClearIfAccepted};
 
 use crate::near::needing_near;
 use grid_base::NoMemory;
@@ -28,9 +29,9 @@ pub fn certify_near<S: Surface>(
 ) -> Result<Made, NoMemory>
     requires fits { AreWays ways.now }
     requires clear { IsClearWhereUntouched (S.mesh mesh.now) ways.now fresh_from }
-    ensures made { IfOk result (IsMadeNear (S.mesh mesh.now) ways.now claim) }
+    ensures made { IfOk result (IsMadeOfWays (S.mesh mesh.now) ways.now claim) }
     // What is made is accepted.
-    ensures accepted { IfOk result (IsAcceptedNear (S.mesh mesh.now) ways.now claim) }
+    ensures accepted { IfOk result (IsAcceptedIfMadeOfWays (S.mesh mesh.now) ways.now claim) }
 {
     let going = MovedVertices { mesh, moves: ways };
     let names = needing_near(alloc, &going, fresh_from)?;
@@ -53,9 +54,9 @@ pub fn accepts_near<S: Surface>(
 ) -> Result<Verdict, NoMemory>
     requires fits { AreWays ways.now }
     requires clear { IsClearWhereUntouched (S.mesh mesh.now) ways.now fresh_from }
-    ensures exact { IfOk result (IsVerdictNear (S.mesh mesh.now) ways.now proof.now) }
+    ensures exact { IfOk result (IsVerdictOfWays (S.mesh mesh.now) ways.now proof.now) }
     ensures accepted { IfOk result (AcceptsExactly (S.mesh mesh.now) ways.now proof.now) }
-    ensures clear { IfOk result (AcceptsClear (S.mesh mesh.now) ways.now proof.now) }
+    ensures clear { IfOk result (IsClearIfAccepted (S.mesh mesh.now) ways.now proof.now) }
 {
     let going = MovedVertices { mesh, moves: ways };
     let names = needing_near(alloc, &going, fresh_from)?;
