@@ -24,7 +24,7 @@ use Rattle.track_held.specs.Fitting.{always}
 use Rattle.track_held.specs.Numbered.{given_rows}
 use Rattle.track_held.specs.Tables.{table_fault, by_cells}
 use Rattle.topo_library.specs.Alone.{AreInBox, places, CanPass, HasTested}
-use Rattle.topo_library.specs.Codes.{tracker_state, AreSettings, HolderHasDone, HolderIsBeyond, HolderHasTold, HolderHasWritten, HolderHasEdited}
+use Rattle.topo_library.specs.Codes.{tracker_state, AreSettings, HolderHasDone, HolderHasTold, HolderHasWritten, HolderHasEdited}
 use Rattle.topo_library.specs.Codes.{HolderHasFitted, HolderHasSet, HolderHasRenumbered, HolderHasShifted, HolderHasShiftedAll}
 use Rattle.topo_library.specs.Codes.{HolderHasShiftedEach, HolderHasMade, HolderHasMadeNumbered, HolderHasPut, HolderHasTakenLog}
 use Rattle.topo_library.specs.Codes.{HolderHasForgotten, HolderHasKept, HolderHasCounted}
