@@ -1,5 +1,5 @@
 //! A shift that is asked of a vertex.
-ghost use Rattle.std.specs.Prelude.{◌≡◌, MatchOption};
+ghost use Rattle.std.specs.Prelude.{MatchOption};
 ghost use Rattle.grid_base.specs.declared.TheConstants.{SHIFT_MAX};
 ghost use Rattle.grid_base.specs.Components.{FitWithin};
 ghost use Rattle.track_held.specs.Asking.{CanBeAsked, CanAllBeAsked, IsGiven, IsSomeWhere, asking, asking_all};

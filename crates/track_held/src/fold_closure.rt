@@ -21,7 +21,7 @@ use step_text::Directive;
 
 // What is told of edits in a group, and whether it is to be kept.
 #[derive(Clone, Copy)]
-struct Tried {
+struct TrialOutcome {
     told: ToldAnswer,
     clean: bool,
 }
@@ -42,7 +42,12 @@ impl<S: Surface> Held<S> {
     ghost use Rattle.track_held.specs.Writing.{WritesEffect};
 
     // Asks edits in an open group, and looks whether they leave a crowded edge at a vertex.
-    fn try_edits(&mut self, alloc: Global, asked: &[Asked], v: VertexId) -> Result<Tried, Stop>
+    fn try_edits(
+        &mut self,
+        alloc: Global,
+        asked: &[Asked],
+        v: VertexId,
+    ) -> Result<TrialOutcome, Stop>
         requires goes_on { goes_on self.old ≡ true }
         ensures goes_on { IfOk result (λ _. goes_on self.new ≡ true) }
         ensures stopped { OnErr result (goes_on self.new ≡ false) }
@@ -60,11 +65,11 @@ impl<S: Surface> Held<S> {
         };
         let told = last_told(reason_at(0, 0, 0, 0), answers.as_slice());
         if count.refused > 0 {
-            return Ok(Tried { told, clean: false });
+            return Ok(TrialOutcome { told, clean: false });
         }
         match first_crowded(alloc, &self.engine.mesh, v) {
-            Ok(None) => Ok(Tried { told, clean: true }),
-            Ok(Some(w)) => Ok(Tried {
+            Ok(None) => Ok(TrialOutcome { told, clean: true }),
+            Ok(Some(w)) => Ok(TrialOutcome {
                 told: reason_at(2, v.0, w.0, 0),
                 clean: false,
             }),
