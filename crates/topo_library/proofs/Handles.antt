@@ -12,38 +12,38 @@ use Rattle.topo_library.specs.declared.fault.TopoFault.{TopoFault}
 use Rattle.topo_library.specs.declared.results.TopoEdits.{TopoEdits}
 use Rattle.topo_library.specs.declared.tracker.Tracker.{Tracker}
 use Rattle.step_choose.specs.declared.Settings.{Settings}
-use Rattle.topo_library.specs.Codes.{tracked, HasWritten, HandleHasWritten, HasEdited, HandleHasEdited, HasDone, HandleHasDone, HasTold, HandleHasTold, HasSet, HandleHasSet, HasRenumbered, HandleHasRenumbered, HasFitted, HandleHasFitted, HasForgotten, HandleHasForgotten, HasKept, HandleHasKeptBy, HasShiftedEach, HandleHasShiftedEach, HasTakenLog, HandleHasTakenLog}
+use Rattle.topo_library.specs.Codes.{tracker_state, HasWritten, HolderHasWritten, HasEdited, HolderHasEdited, HasDone, HolderHasDone, HasTold, HolderHasTold, HasSet, HolderHasSet, HasRenumbered, HolderHasRenumbered, HasFitted, HolderHasFitted, HasForgotten, HolderHasForgotten, HasKept, HolderHasKeptBy, HasShiftedEach, HolderHasShiftedEach, HasTakenLog, HolderHasTakenLog}
 
 module _ (old new : Option Tracker) (s t : Tracker) (held : old ≡ Some s) (holds : new ≡ Some t) where
-  pub answers : (what : Directive) (before after : TopoFault) (code : ℕ) → HasDone what s t before after code → HandleHasDone what old new before after code
-  answers what before after code h = let P : Option Tracker → Type 0 = λ o. HandleHasDone what o new before after code in subst P (sym held) (t, holds, h)
+  pub answers : (what : Directive) (before after : TopoFault) (code : ℕ) → HasDone what s t before after code → HolderHasDone what old new before after code
+  answers what before after code h = let P : Option Tracker → Type 0 = λ o. HolderHasDone what o new before after code in subst P (sym held) (t, holds, h)
 
-  pub all_shifts : (rows : List NamedPoint) (before after : TopoFault) (code : ℕ) → HasShiftedEach rows s t before after code → HandleHasShiftedEach rows old new before after code
-  all_shifts rows before after code h = let P : Option Tracker → Type 0 = λ o. HandleHasShiftedEach rows o new before after code in subst P (sym held) (t, holds, h)
+  pub all_shifts : (rows : List NamedPoint) (before after : TopoFault) (code : ℕ) → HasShiftedEach rows s t before after code → HolderHasShiftedEach rows old new before after code
+  all_shifts rows before after code h = let P : Option Tracker → Type 0 = λ o. HolderHasShiftedEach rows o new before after code in subst P (sym held) (t, holds, h)
 
-  pub gives_log : (into now : List ℕ) (before size code : ℕ) → HasTakenLog s t into now before size code → HandleHasTakenLog old new into now before size code
-  gives_log into now before size code h = let P : Option Tracker → Type 0 = λ o. HandleHasTakenLog o new into now before size code in subst P (sym held) (t, holds, h)
+  pub gives_log : (into now : List ℕ) (before size code : ℕ) → HasTakenLog s t into now before size code → HolderHasTakenLog old new into now before size code
+  gives_log into now before size code h = let P : Option Tracker → Type 0 = λ o. HolderHasTakenLog o new into now before size code in subst P (sym held) (t, holds, h)
 
-  pub sets : (set : Settings) (code : ℕ) → HasSet set s t code → HandleHasSet set old new code
-  sets set code h = let P : Option Tracker → Type 0 = λ o. HandleHasSet set o new code in subst P (sym held) (t, holds, h)
+  pub sets : (set : Settings) (code : ℕ) → HasSet set s t code → HolderHasSet set old new code
+  sets set code h = let P : Option Tracker → Type 0 = λ o. HolderHasSet set o new code in subst P (sym held) (t, holds, h)
 
-  pub renumbers : (code : ℕ) → HasRenumbered s t code → HandleHasRenumbered old new code
-  renumbers code h = let P : Option Tracker → Type 0 = λ o. HandleHasRenumbered o new code in subst P (sym held) (t, holds, h)
+  pub renumbers : (code : ℕ) → HasRenumbered s t code → HolderHasRenumbered old new code
+  renumbers code h = let P : Option Tracker → Type 0 = λ o. HolderHasRenumbered o new code in subst P (sym held) (t, holds, h)
 
-  pub fits : (may_size : Point → Band → Type 0) (before after : TopoEdits) (code : ℕ) → HasFitted may_size s t before after code → HandleHasFitted may_size old new before after code
-  fits may_size before after code h = let P : Option Tracker → Type 0 = λ o. HandleHasFitted may_size o new before after code in subst P (sym held) (t, holds, h)
+  pub fits : (may_size : Point → Band → Type 0) (before after : TopoEdits) (code : ℕ) → HasFitted may_size s t before after code → HolderHasFitted may_size old new before after code
+  fits may_size before after code h = let P : Option Tracker → Type 0 = λ o. HolderHasFitted may_size o new before after code in subst P (sym held) (t, holds, h)
 
-  pub wrote : (effect : State → Effect) (code : ℕ) → HasWritten (effect (tracked s)) s t code → HandleHasWritten effect old new code
-  wrote effect code h = let P : Option Tracker → Type 0 = λ o. HandleHasWritten effect o new code in subst P (sym held) (t, holds, h)
+  pub wrote : (effect : State → Effect) (code : ℕ) → HasWritten (effect (tracker_state s)) s t code → HolderHasWritten effect old new code
+  wrote effect code h = let P : Option Tracker → Type 0 = λ o. HolderHasWritten effect o new code in subst P (sym held) (t, holds, h)
 
-  pub edited : (rows : List GivenEdit) (into now : List ToldAnswer) (before taken code : ℕ) → HasEdited rows s t into now before taken code → HandleHasEdited rows old new into now before taken code
-  edited rows into now before taken code h = let P : Option Tracker → Type 0 = λ o. HandleHasEdited rows o new into now before taken code in subst P (sym held) (t, holds, h)
+  pub edited : (rows : List GivenEdit) (into now : List ToldAnswer) (before taken code : ℕ) → HasEdited rows s t into now before taken code → HolderHasEdited rows old new into now before taken code
+  edited rows into now before taken code h = let P : Option Tracker → Type 0 = λ o. HolderHasEdited rows o new into now before taken code in subst P (sym held) (t, holds, h)
 
-  pub keeps_by : (on : Bool) → HasKept on s t → HandleHasKeptBy on old new 0
-  keeps_by on h = let P : Option Tracker → Type 0 = λ o. HandleHasKeptBy on o new 0 in subst P (sym held) (refl, (t, holds, h))
+  pub keeps_by : (on : Bool) → HasKept on s t → HolderHasKeptBy on old new 0
+  keeps_by on h = let P : Option Tracker → Type 0 = λ o. HolderHasKeptBy on o new 0 in subst P (sym held) (refl, (t, holds, h))
 
-  pub forgets : HasForgotten s t → HandleHasForgotten old new 0
-  forgets h = let P : Option Tracker → Type 0 = λ o. HandleHasForgotten o new 0 in subst P (sym held) (refl, (t, holds, h))
+  pub forgets : HasForgotten s t → HolderHasForgotten old new 0
+  forgets h = let P : Option Tracker → Type 0 = λ o. HolderHasForgotten o new 0 in subst P (sym held) (refl, (t, holds, h))
 
-pub tells : {X : Type 0} (tell : Tracker → X) (old : Option Tracker) (s : Tracker) → old ≡ Some s → (before after : X) (code : ℕ) → HasTold tell s before after code → HandleHasTold tell old before after code
-tells tell old s held before after code h = let P : Option Tracker → Type 0 = λ o. HandleHasTold tell o before after code in subst P (sym held) h
+pub tells : {X : Type 0} (tell : Tracker → X) (old : Option Tracker) (s : Tracker) → old ≡ Some s → (before after : X) (code : ℕ) → HasTold tell s before after code → HolderHasTold tell old before after code
+tells tell old s held before after code h = let P : Option Tracker → Type 0 = λ o. HolderHasTold tell o before after code in subst P (sym held) h

@@ -1,4 +1,5 @@
--- What the codes say of the calls.
+-- What the codes say of a tracker, and of what holds a tracker or none, which is called its holder:
+-- of what it holds before a call and after it. `Calls` says it of the handle of a call.
 use Rattle.std.specs.Prelude.{◌≡◌, ◌≢◌, ◌≤◌, ◌<◌, ◌↔◌, ◌⊎◌, ◌==◌, ℕ, Bool, true, Option, Some, None, Ok, Err}
 use Rattle.std.specs.Prelude.{List, [], ◌∷◌, ◌++◌, length, drop, map, IsTrue}
 use Rattle.std.specs.FinMap as finite
@@ -40,6 +41,7 @@ use Rattle.track_held.specs.Given.{given_mesh, make_fault}
 use Rattle.track_held.specs.Held.{engine_in, keeps_lines, lines_in, log_in, goes_on}
 use Rattle.track_held.specs.Numbered.{numbered_fault}
 use Rattle.track_held.specs.Renumbered.{dense_state}
+use Rattle.track_held.specs.Setting.{with_settings}
 use Rattle.topo_library.specs.Faults.{make_place, numbered_place, use_place}
 use Rattle.topo_library.specs.Tellings.{edits_told}
 use Rattle.topo_library.specs.declared.results.TopoEdits.{TopoEdits}
@@ -48,13 +50,13 @@ use Rattle.topo_library.specs.declared.fault.TopoFault.{TopoFault}
 use Rattle.topo_library.specs.declared.tracker.Tracker.{Tracker}
 
 -- where a tracker stands
-abbrev pub tracked : Tracker → State
-tracked t = state_in mesh_in kept_in (engine_in t.held)
+abbrev pub tracker_state : Tracker → State
+tracker_state t = state_in mesh_in kept_in (engine_in t.held)
 
 -- the text of the lines that it has told since they were last taken or forgotten, where it keeps
 -- them
-abbrev pub told : Tracker → Option (List ℕ)
-told t = log_in t.held
+abbrev pub tracker_log : Tracker → Option (List ℕ)
+tracker_log t = log_in t.held
 
 -- these lines
 abbrev pub lines_told : Tracker → List LogLine
@@ -79,18 +81,20 @@ pub record HasDone (what : Directive) (s t : Tracker) (before after : TopoFault)
     (code : ℕ) : Type 0 where
   -- 0: its lines were told, and the tracker stands in the state after it
   pub done : code ≡ 0 →
-      Writes (effect_of Nothing what (tracked s)) (tracked t) (told s)
-      (told t) (Ok None)
+      Writes (effect_of Nothing what (tracker_state s)) (tracker_state t)
+      (tracker_log s) (tracker_log t) (Ok None)
   -- 1: there was no memory: nothing was told, or a part of its lines, and the tracker is stopped
   pub memory : code ≡ 1 →
-      Writes (effect_of Nothing what (tracked s)) (tracked t) (told s) (told t)
-      (Err NoMemory) × ¬ GoesOn t
+      Writes (effect_of Nothing what (tracker_state s)) (tracker_state t)
+      (tracker_log s) (tracker_log t) (Err NoMemory)
+      × ¬ GoesOn t
   -- 2: it was refused, for the reason that the fault tells; the state and
   -- what was told are as they were
   pub refused : code ≡ 2 →
       (why : UseWhy) × (after ≡ use_place why)
-      × Writes (effect_of Nothing what (tracked s)) (tracked t) (told s) (told t)
-      (Ok (Some why)) × (tracked t ≡ tracked s)
+      × Writes (effect_of Nothing what (tracker_state s)) (tracker_state t)
+      (tracker_log s) (tracker_log t) (Ok (Some why))
+      × (tracker_state t ≡ tracker_state s)
   -- 5 exactly where the tracker was stopped, and 6 exactly where no more
   -- directive can be taken: nothing is done
   pub stopped : code ≡ 5 ↔ ¬ GoesOn s
@@ -101,20 +105,20 @@ pub record HasDone (what : Directive) (s t : Tracker) (before after : TopoFault)
   -- only want of memory stops the tracker, and while it is not stopped its mesh is sound, closed
   -- and clear, and that of each open group
   pub goes_on : code ≢ 1 → goes_on t.held ≡ goes_on s.held
-  pub kept : GoesOn t → IsRunInvariant (tracked t)
+  pub kept : GoesOn t → IsRunInvariant (tracker_state t)
   -- no other code comes
   pub among : (code ≡ 0) ⊎ (code ≡ 1) ⊎ (code ≡ 2) ⊎ (code ≡ 5) ⊎ (code ≡ 6)
 
--- The same of a handle: 4 where it holds no tracker.
-abbrev pub HandleHasDone : Directive → Option Tracker → Option Tracker → TopoFault → TopoFault → ℕ →
+-- The same of a holder: 4 where it holds no tracker.
+abbrev pub HolderHasDone : Directive → Option Tracker → Option Tracker → TopoFault → TopoFault → ℕ →
     Type 0
-HandleHasDone what None new before after code = (code ≡ 4) × (new ≡ None) × (after ≡ before)
-HandleHasDone what (Some s) new before after code =
+HolderHasDone what None new before after code = (code ≡ 4) × (new ≡ None) × (after ≡ before)
+HolderHasDone what (Some s) new before after code =
     (t : Tracker) × (new ≡ Some t) × HasDone what s t before after code
 
--- 3, with the handle and the fault as they were
-abbrev pub IsBeyond : Option Tracker → Option Tracker → TopoFault → TopoFault → ℕ → Type 0
-IsBeyond old new before after code = (code ≡ 3) × (new ≡ old) × (after ≡ before)
+-- 3, with what is held and the fault as they were
+abbrev pub HolderIsBeyond : Option Tracker → Option Tracker → TopoFault → TopoFault → ℕ → Type 0
+HolderIsBeyond old new before after code = (code ≡ 3) × (new ≡ old) × (after ≡ before)
 
 -- What a call that does a directive tells beside its code: at 0 what the tracker s tells, and else
 -- nothing.
@@ -123,10 +127,10 @@ pub record HasTold {X : Type 0} (tell : Tracker → X) (s : Tracker) (before aft
   pub told : code ≡ 0 → after ≡ tell s
   pub left : code ≢ 0 → after ≡ before
 
--- the same of a handle
-abbrev pub HandleHasTold : {X : Type 0} → (Tracker → X) → Option Tracker → X → X → ℕ → Type 0
-HandleHasTold tell None before after code = after ≡ before
-HandleHasTold tell (Some s) before after code = HasTold tell s before after code
+-- the same of a holder
+abbrev pub HolderHasTold : {X : Type 0} → (Tracker → X) → Option Tracker → X → X → ℕ → Type 0
+HolderHasTold tell None before after code = after ≡ before
+HolderHasTold tell (Some s) before after code = HasTold tell s before after code
 
 -- ---- what is never refused
 
@@ -134,23 +138,23 @@ HandleHasTold tell (Some s) before after code = HasTold tell s before after code
 -- is t.
 pub record HasWritten (effect : Effect) (s t : Tracker) (code : ℕ) : Type 0 where
   -- 0: its lines were told, and the tracker stands in the state after it
-  pub done : code ≡ 0 → Writes effect (tracked t) (told s) (told t) (Ok None)
+  pub done : code ≡ 0 → Writes effect (tracker_state t) (tracker_log s) (tracker_log t) (Ok None)
   -- 1: there was no memory: nothing was told, or a part of its lines, and the tracker is stopped
   pub memory : code ≡ 1 →
-      Writes effect (tracked t) (told s) (told t) (Err NoMemory) × ¬ GoesOn t
+      Writes effect (tracker_state t) (tracker_log s) (tracker_log t) (Err NoMemory) × ¬ GoesOn t
   -- the rest as of a directive
   pub stopped : code ≡ 5 ↔ ¬ GoesOn s
   pub spent : code ≡ 6 ↔ (GoesOn s × ¬ HasRoomLeft s)
   pub idle : (code ≡ 5) ⊎ (code ≡ 6) → t ≡ s
   pub goes_on : code ≢ 1 → goes_on t.held ≡ goes_on s.held
-  pub kept : GoesOn t → IsRunInvariant (tracked t)
+  pub kept : GoesOn t → IsRunInvariant (tracker_state t)
   pub among : (code ≡ 0) ⊎ (code ≡ 1) ⊎ (code ≡ 5) ⊎ (code ≡ 6)
 
--- the same of a handle, by what the effect is in the state where its tracker stands
-abbrev pub HandleHasWritten : (State → Effect) → Option Tracker → Option Tracker → ℕ → Type 0
-HandleHasWritten effect None new code = (code ≡ 4) × (new ≡ None)
-HandleHasWritten effect (Some s) new code =
-    (t : Tracker) × (new ≡ Some t) × HasWritten (effect (tracked s)) s t code
+-- the same of a holder, by what the effect is in the state where its tracker stands
+abbrev pub HolderHasWritten : (State → Effect) → Option Tracker → Option Tracker → ℕ → Type 0
+HolderHasWritten effect None new code = (code ≡ 4) × (new ≡ None)
+HolderHasWritten effect (Some s) new code =
+    (t : Tracker) × (new ≡ Some t) × HasWritten (effect (tracker_state s)) s t code
 
 -- ---- edits that are asked for
 
@@ -159,7 +163,7 @@ HandleHasWritten effect (Some s) new code =
 -- number is told; else both are as they were.
 pub record HasAnswered (asked : List Asked) (s : Tracker) (into now : List ToldAnswer)
     (before taken code : ℕ) : Type 0 where
-  pub told : code ≡ 0 → let answers = map answer_told (edited_answers asked (tracked s)) in
+  pub told : code ≡ 0 → let answers = map answer_told (edited_answers asked (tracker_state s)) in
       (now ≡ answers ++ drop (length answers) into) × (taken ≡ length answers)
   pub left : code ≢ 0 → (now ≡ into) × (taken ≡ before)
 
@@ -180,15 +184,15 @@ HasEdited rows s t into now before taken code =
     ((code ≡ 1) × HasLeft s t into now before taken)
     ⊎ ((edits_asked rows ≡ None) × (code ≡ 3) × HasLeft s t into now before taken)
     ⊎ ((asked : List Asked) × (edits_asked rows ≡ Some asked)
-    × HasWritten (edits_effect asked (tracked s)) s t code
+    × HasWritten (edits_effect asked (tracker_state s)) s t code
     × HasAnswered asked s into now before taken code))
 
--- the same of a handle
-abbrev pub HandleHasEdited : List GivenEdit → Option Tracker → Option Tracker → List ToldAnswer →
+-- the same of a holder
+abbrev pub HolderHasEdited : List GivenEdit → Option Tracker → Option Tracker → List ToldAnswer →
     List ToldAnswer → ℕ → ℕ → ℕ → Type 0
-HandleHasEdited rows None new into now before taken code =
+HolderHasEdited rows None new into now before taken code =
     (code ≡ 4) × (new ≡ None) × (now ≡ into) × (taken ≡ before)
-HandleHasEdited rows (Some s) new into now before taken code =
+HolderHasEdited rows (Some s) new into now before taken code =
     (t : Tracker) × (new ≡ Some t) × HasEdited rows s t into now before taken code
 
 -- ---- a pass by a sizing
@@ -201,10 +205,12 @@ pub record HasFitted (may_size : Point → Band → Type 0) (s t : Tracker) (bef
   -- the lines are of done edits, and of refused ones
   pub done : code ≡ 0 →
       (count : PassCount) × (after ≡ edits_told count)
-      × FitTells may_size (tracked s) (tracked t) (told s) (told t) (Ok count)
+      × FitTells may_size (tracker_state s) (tracker_state t)
+      (tracker_log s) (tracker_log t) (Ok count)
   -- 1: there was no memory: nothing was told, or a part of its lines, and the tracker is stopped
   pub memory : code ≡ 1 →
-      FitTells may_size (tracked s) (tracked t) (told s) (told t) (Err NoMemory)
+      FitTells may_size (tracker_state s) (tracker_state t)
+      (tracker_log s) (tracker_log t) (Err NoMemory)
       × ¬ GoesOn t
   -- but at 0 no number is told
   pub untold : code ≢ 0 → after ≡ before
@@ -213,15 +219,15 @@ pub record HasFitted (may_size : Point → Band → Type 0) (s t : Tracker) (bef
   pub spent : code ≡ 6 ↔ (GoesOn s × ¬ HasRoomLeft s)
   pub idle : (code ≡ 5) ⊎ (code ≡ 6) → t ≡ s
   pub goes_on : code ≢ 1 → goes_on t.held ≡ goes_on s.held
-  pub kept : GoesOn t → IsRunInvariant (tracked t)
+  pub kept : GoesOn t → IsRunInvariant (tracker_state t)
   pub among : (code ≡ 0) ⊎ (code ≡ 1) ⊎ (code ≡ 5) ⊎ (code ≡ 6)
 
--- the same of a handle
-abbrev pub HandleHasFitted : (Point → Band → Type 0) → Option Tracker → Option Tracker →
+-- the same of a holder
+abbrev pub HolderHasFitted : (Point → Band → Type 0) → Option Tracker → Option Tracker →
     TopoEdits → TopoEdits → ℕ → Type 0
-HandleHasFitted may_size None new before after code =
+HolderHasFitted may_size None new before after code =
     (code ≡ 4) × (new ≡ None) × (after ≡ before)
-HandleHasFitted may_size (Some s) new before after code =
+HolderHasFitted may_size (Some s) new before after code =
     (t : Tracker) × (new ≡ Some t) × HasFitted may_size s t before after code
 
 -- ---- settings
@@ -233,14 +239,10 @@ pub record AreSettings (depth passes zones halvings : ℕ) : Type 0 where
   pub zones_fits : zones ≤ 1
   pub halvings_fits : halvings ≤ HALVINGS_MAX
 
--- the same state, with these settings
-abbrev pub with_settings : Settings → State → State
-with_settings set s = record s { set = set }
-
 -- What a code says of a call that sets all settings.
 pub record HasSet (set : Settings) (s t : Tracker) (code : ℕ) : Type 0 where
   -- 0: it goes by them
-  pub done : code ≡ 0 → tracked t ≡ with_settings set (tracked s)
+  pub done : code ≡ 0 → tracker_state t ≡ with_settings set (tracker_state s)
   -- 5 exactly where the tracker was stopped: nothing is done
   pub stopped : code ≡ 5 ↔ ¬ GoesOn s
   pub idle : code ≡ 5 → t ≡ s
@@ -250,48 +252,48 @@ pub record HasSet (set : Settings) (s t : Tracker) (code : ℕ) : Type 0 where
   pub goes_on : goes_on t.held ≡ goes_on s.held
   pub among : (code ≡ 0) ⊎ (code ≡ 5)
 
--- the same of a handle: 4 where it holds no tracker
-abbrev pub HandleHasSet : Settings → Option Tracker → Option Tracker → ℕ → Type 0
-HandleHasSet set None new code = (code ≡ 4) × (new ≡ None)
-HandleHasSet set (Some s) new code = (t : Tracker) × (new ≡ Some t) × HasSet set s t code
+-- the same of a holder: 4 where it holds no tracker
+abbrev pub HolderHasSet : Settings → Option Tracker → Option Tracker → ℕ → Type 0
+HolderHasSet set None new code = (code ≡ 4) × (new ≡ None)
+HolderHasSet set (Some s) new code = (t : Tracker) × (new ≡ Some t) × HasSet set s t code
 
 -- ---- numbering anew
 
 -- What a code says of a call that numbers vertices and faces anew.
 pub record HasRenumbered (s t : Tracker) (code : ℕ) : Type 0 where
   -- 0: the tracker stands in the same state, but for the ids, and has told nothing
-  pub done : code ≡ 0 → (tracked t ≡ dense_state (tracked s)) × (lines_told t ≡ [])
+  pub done : code ≡ 0 → (tracker_state t ≡ dense_state (tracker_state s)) × (lines_told t ≡ [])
   -- 5 exactly where the tracker was stopped, and 7 exactly where it goes on and a group is open
   pub stopped : code ≡ 5 ↔ ¬ GoesOn s
-  pub grouped : code ≡ 7 ↔ (GoesOn s × IsTrue (is_open (tracked s).groups))
+  pub grouped : code ≡ 7 ↔ (GoesOn s × IsTrue (is_open (tracker_state s).groups))
   -- but at 0 nothing is changed
   pub left : code ≢ 0 → t ≡ s
   pub keeps_on : keeps t ≡ keeps s
   pub goes_on : goes_on t.held ≡ goes_on s.held
-  pub kept : GoesOn t → IsRunInvariant (tracked t)
+  pub kept : GoesOn t → IsRunInvariant (tracker_state t)
   -- 1 is want of memory, and no other code comes
   pub among : (code ≡ 0) ⊎ (code ≡ 1) ⊎ (code ≡ 5) ⊎ (code ≡ 7)
 
--- the same of a handle: 4 where it holds no tracker
-abbrev pub HandleHasRenumbered : Option Tracker → Option Tracker → ℕ → Type 0
-HandleHasRenumbered None new code = (code ≡ 4) × (new ≡ None)
-HandleHasRenumbered (Some s) new code = (t : Tracker) × (new ≡ Some t) × HasRenumbered s t code
+-- the same of a holder: 4 where it holds no tracker
+abbrev pub HolderHasRenumbered : Option Tracker → Option Tracker → ℕ → Type 0
+HolderHasRenumbered None new code = (code ≡ 4) × (new ≡ None)
+HolderHasRenumbered (Some s) new code = (t : Tracker) × (new ≡ Some t) × HasRenumbered s t code
 
 -- ---- shifts
 
 -- one shift: 3 where it cannot be asked, and else what the code says of the directive
-abbrev pub HandleHasShifted : NamedPoint → Option Tracker → Option Tracker → TopoFault → TopoFault →
+abbrev pub HolderHasShifted : NamedPoint → Option Tracker → Option Tracker → TopoFault → TopoFault →
     ℕ → Type 0
-HandleHasShifted row old new before after code =
-    (¬ CanBeAsked row → IsBeyond old new before after code)
-    × (CanBeAsked row → HandleHasDone (asking row) old new before after code)
+HolderHasShifted row old new before after code =
+    (¬ CanBeAsked row → HolderIsBeyond old new before after code)
+    × (CanBeAsked row → HolderHasDone (asking row) old new before after code)
 
 -- one shift of all vertices: the same
-abbrev pub HandleHasShiftedAll : NamedPoint → Option Tracker → Option Tracker
+abbrev pub HolderHasShiftedAll : NamedPoint → Option Tracker → Option Tracker
     → TopoFault → TopoFault → ℕ → Type 0
-HandleHasShiftedAll row old new before after code =
-    (¬ CanAllBeAsked row → IsBeyond old new before after code)
-    × (CanAllBeAsked row → HandleHasDone (asking_all row) old new before after code)
+HolderHasShiftedAll row old new before after code =
+    (¬ CanAllBeAsked row → HolderIsBeyond old new before after code)
+    × (CanAllBeAsked row → HolderHasDone (asking_all row) old new before after code)
 
 -- Each shift in order, up to the first that cannot be asked or is
 -- not done, whose code is the answer.
@@ -303,30 +305,30 @@ HasShiftedEach (row ∷ rows) s t before after code =
     ⊎ (CanBeAsked row × ((mid : Tracker) × (between : TopoFault)
     × HasDone (asking row) s mid before between 0 × HasShiftedEach rows mid t between after code))
 
--- the same of a handle
-abbrev pub HandleHasShiftedEach : List NamedPoint → Option Tracker → Option Tracker → TopoFault →
+-- the same of a holder
+abbrev pub HolderHasShiftedEach : List NamedPoint → Option Tracker → Option Tracker → TopoFault →
     TopoFault → ℕ → Type 0
-HandleHasShiftedEach rows None new before after code = (code ≡ 4) × (new ≡ None) × (after ≡ before)
-HandleHasShiftedEach rows (Some s) new before after code =
+HolderHasShiftedEach rows None new before after code = (code ≡ 4) × (new ≡ None) × (after ≡ before)
+HolderHasShiftedEach rows (Some s) new before after code =
     (t : Tracker) × (new ≡ Some t) × HasShiftedEach rows s t before after code
 
 -- ---- making
 
--- a handle holds a tracker of the mesh, which is sound, closed and clear; nothing has stopped it or
+-- what is held is a tracker of the mesh, which is sound, closed and clear; nothing has stopped it or
 -- is asked of it, it has told nothing, and keeps the lines that it tells
 pub record IsMade (m : Mesh) (new : Option Tracker) : Type 0 where
   pub tracker : Tracker
   pub holds : new ≡ Some tracker
-  pub state : tracked tracker ≡ unsaved m
+  pub state : tracker_state tracker ≡ unsaved m
   pub valid : IsValidSurface m
   pub goes_on : GoesOn tracker
   pub lines : lines_told tracker ≡ []
   pub keeps_on : keeps tracker ≡ true
 
 -- What a code says of a call that makes a tracker of points and faces.
-pub record HasMade (points : List GivenPoint) (faces : List GivenFace) (new : Option Tracker)
+pub record HolderHasMade (points : List GivenPoint) (faces : List GivenFace) (new : Option Tracker)
     (before after : TopoFault) (code : ℕ) : Type 0 where
-  -- 0: they have no fault, and the handle holds a tracker of their mesh
+  -- 0: they have no fault, and what is held is a tracker of their mesh
   pub made : code ≡ 0 → (make_fault points faces ≡ None) × IsMade (given_mesh points faces) new
   -- 2: the fault is the first that they have
   pub refused : code ≡ 2 →
@@ -334,7 +336,7 @@ pub record HasMade (points : List GivenPoint) (faces : List GivenFace) (new : Op
   -- and that is so, without memory, where there are too many points, or too many faces
   pub crowded : VERTICES_MAX < length points → code ≡ 2
   pub crowded_faces : FACES_MAX < length faces → code ≡ 2
-  -- but at 0 the handle holds none, and only a refusal sets the fault
+  -- but at 0 none is held, and only a refusal sets the fault
   pub none : code ≢ 0 → new ≡ None
   pub fault : code ≢ 2 → after ≡ before
   -- 1 is want of memory, and no other code comes
@@ -342,16 +344,16 @@ pub record HasMade (points : List GivenPoint) (faces : List GivenFace) (new : Op
 
 -- What a code says of a call that makes a tracker of vertices and faces with their ids. These are
 -- the rows, of which the vertices are given so.
-pub record HasMadeNumbered (points : List NamedPoint) (rows : MeshRows) (new : Option Tracker)
+pub record HolderHasMadeNumbered (points : List NamedPoint) (rows : MeshRows) (new : Option Tracker)
     (before after : TopoFault) (code : ℕ) : Type 0 where
-  -- 0: they have no fault, and the handle holds a tracker of their mesh
+  -- 0: they have no fault, and what is held is a tracker of their mesh
   pub made : code ≡ 0 → (numbered_fault points rows ≡ None) × IsMade (mesh_of_rows Large rows) new
   -- 2: the fault is the first that they have
   pub refused : code ≡ 2 →
       (why : NumberedFault) × (numbered_fault points rows ≡ Some why) × (after ≡ numbered_place why)
   -- and that is so, without memory, where there are too many vertices
   pub crowded : VERTICES_MAX < length points → code ≡ 2
-  -- but at 0 the handle holds none, and only a refusal sets the fault
+  -- but at 0 none is held, and only a refusal sets the fault
   pub none : code ≢ 0 → new ≡ None
   pub fault : code ≢ 2 → after ≡ before
   -- 1 is want of memory, and no other code comes
@@ -372,12 +374,12 @@ pub record HasPut {X : Type 0} (rows into now : List X) (before size code : ℕ)
   -- no other code comes
   pub among : (code ≡ 0) ⊎ (code ≡ 1) ⊎ (code ≡ 3)
 
--- The same of a handle's tracker, which stays: 4 where there is none.
-abbrev pub HandleHasPut : {X : Type 0} → (Tracker → List X) → Option Tracker → Option Tracker →
+-- The same of a holder's tracker, which stays: 4 where there is none.
+abbrev pub HolderHasPut : {X : Type 0} → (Tracker → List X) → Option Tracker → Option Tracker →
     List X → List X → ℕ → ℕ → ℕ → Type 0
-HandleHasPut rows None new into now before size code =
+HolderHasPut rows None new into now before size code =
     (code ≡ 4) × (new ≡ None) × (now ≡ into) × (size ≡ before)
-HandleHasPut rows (Some t) new into now before size code =
+HolderHasPut rows (Some t) new into now before size code =
     (new ≡ Some t) × HasPut (rows t) into now before size code
 
 -- The text of the lines is put into a buffer, and at 0 they are taken: the tracker has told nothing
@@ -390,12 +392,12 @@ pub record HasTakenLog (s t : Tracker) (into now : List ℕ) (before size code :
   pub engine : engine_in t.held ≡ engine_in s.held
   pub goes_on : goes_on t.held ≡ goes_on s.held
 
--- the same of a handle
-abbrev pub HandleHasTakenLog : Option Tracker → Option Tracker → List ℕ → List ℕ → ℕ → ℕ → ℕ →
+-- the same of a holder
+abbrev pub HolderHasTakenLog : Option Tracker → Option Tracker → List ℕ → List ℕ → ℕ → ℕ → ℕ →
     Type 0
-HandleHasTakenLog None new into now before size code =
+HolderHasTakenLog None new into now before size code =
     (code ≡ 4) × (new ≡ None) × (now ≡ into) × (size ≡ before)
-HandleHasTakenLog (Some s) new into now before size code =
+HolderHasTakenLog (Some s) new into now before size code =
     (t : Tracker) × (new ≡ Some t) × HasTakenLog s t into now before size code
 
 -- The lines are forgotten. The tracker stays in all else.
@@ -405,10 +407,10 @@ pub record HasForgotten (s t : Tracker) : Type 0 where
   pub engine : engine_in t.held ≡ engine_in s.held
   pub goes_on : goes_on t.held ≡ goes_on s.held
 
--- the same of a handle: 4 where there is none
-abbrev pub HandleHasForgotten : Option Tracker → Option Tracker → ℕ → Type 0
-HandleHasForgotten None new code = (code ≡ 4) × (new ≡ None)
-HandleHasForgotten (Some s) new code =
+-- the same of a holder: 4 where there is none
+abbrev pub HolderHasForgotten : Option Tracker → Option Tracker → ℕ → Type 0
+HolderHasForgotten None new code = (code ≡ 4) × (new ≡ None)
+HolderHasForgotten (Some s) new code =
     (code ≡ 0) × ((t : Tracker) × (new ≡ Some t) × HasForgotten s t)
 
 -- The lines that are told are kept from here on, or none are, and those that were told are
@@ -419,32 +421,32 @@ pub record HasKept (on : Bool) (s t : Tracker) : Type 0 where
   pub engine : engine_in t.held ≡ engine_in s.held
   pub goes_on : goes_on t.held ≡ goes_on s.held
 
--- the same of a handle: 4 where there is none
-abbrev pub HandleHasKeptBy : Bool → Option Tracker → Option Tracker → ℕ → Type 0
-HandleHasKeptBy on None new code = (code ≡ 4) × (new ≡ None)
-HandleHasKeptBy on (Some s) new code =
+-- the same of a holder: 4 where there is none
+abbrev pub HolderHasKeptBy : Bool → Option Tracker → Option Tracker → ℕ → Type 0
+HolderHasKeptBy on None new code = (code ≡ 4) × (new ≡ None)
+HolderHasKeptBy on (Some s) new code =
     (code ≡ 0) × ((t : Tracker) × (new ≡ Some t) × HasKept on s t)
 
 -- the same, by a number that is 1 where lines are kept, and 0 where none are: 3 where it
 -- is neither, and else 4 where there is no tracker
-abbrev pub HandleHasKept : ℕ → Option Tracker → Option Tracker → ℕ → Type 0
-HandleHasKept on old new code =
-    (1 < on → (code ≡ 3) × (new ≡ old)) × (on ≤ 1 → HandleHasKeptBy (on == 1) old new code)
+abbrev pub HolderHasKept : ℕ → Option Tracker → Option Tracker → ℕ → Type 0
+HolderHasKept on old new code =
+    (1 < on → (code ≡ 3) × (new ≡ old)) × (on ≤ 1 → HolderHasKeptBy (on == 1) old new code)
 
 -- how many lines were told, the live vertices and faces, the ids that come next, and the steps taken
 abbrev pub counts_of : Tracker → TopoCounted
 counts_of t = record {
   lines = length (lines_told t);
-  vertices = finite.len (tracked t).mesh.points;
-  faces = finite.len (tracked t).mesh.faces;
-  next_vertex = (tracked t).mesh.next_vertex;
-  next_face = (tracked t).mesh.next_face;
-  steps = (tracked t).steps;
+  vertices = finite.len (tracker_state t).mesh.points;
+  faces = finite.len (tracker_state t).mesh.faces;
+  next_vertex = (tracker_state t).mesh.next_vertex;
+  next_face = (tracker_state t).mesh.next_face;
+  steps = (tracker_state t).steps;
 }
 
--- they are told of a handle's tracker, which stays: 4 where there is none
-abbrev pub HandleHasCounted : Option Tracker → Option Tracker → TopoCounted → TopoCounted → ℕ →
+-- they are told of a holder's tracker, which stays: 4 where there is none
+abbrev pub HolderHasCounted : Option Tracker → Option Tracker → TopoCounted → TopoCounted → ℕ →
     Type 0
-HandleHasCounted None new before after code = (code ≡ 4) × (new ≡ None) × (after ≡ before)
-HandleHasCounted (Some t) new before after code =
+HolderHasCounted None new before after code = (code ≡ 4) × (new ≡ None) × (after ≡ before)
+HolderHasCounted (Some t) new before after code =
     (code ≡ 0) × (new ≡ Some t) × (after ≡ counts_of t)

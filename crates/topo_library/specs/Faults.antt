@@ -26,13 +26,13 @@ abbrev fault_at : ℕ → ℕ → ℕ → ℕ → TopoFault
 fault_at why a b c = record { why = why; a = a; b = b; c = c }
 
 -- a count, or the greatest number that is told
-abbrev pub capped : ℕ → ℕ
-capped count = if nat_lt count 4294967295 then count else 4294967295
+abbrev pub capped_number : ℕ → ℕ
+capped_number count = if nat_lt count 4294967295 then count else 4294967295
 
 -- what is wrong with the shape of points and faces
 abbrev pub shape_place : ShapeFault → TopoFault
-shape_place (TooManyVertices count) = fault_at 11 (capped count) 0 0
-shape_place (TooManyFaces count) = fault_at 12 (capped count) 0 0
+shape_place (TooManyVertices count) = fault_at 11 (capped_number count) 0 0
+shape_place (TooManyFaces count) = fault_at 12 (capped_number count) 0 0
 shape_place (NoCorner face corner) = fault_at 13 face corner 0
 shape_place (Repeated face) = fault_at 14 face 0 0
 shape_place (Doubled first second) = fault_at 15 first second 0
@@ -47,8 +47,8 @@ make_place (Meets pair) = fault_at 17 pair.a pair.b pair.face
 
 -- what is wrong with rows: of a face and of a vertex that is known by its id, the same as above
 abbrev pub rows_place : RowsFault → TopoFault
-rows_place (ManyVertices count) = fault_at 11 (capped count) 0 0
-rows_place (ManyFaces count) = fault_at 12 (capped count) 0 0
+rows_place (ManyVertices count) = fault_at 11 (capped_number count) 0 0
+rows_place (ManyFaces count) = fault_at 12 (capped_number count) 0 0
 rows_place (NoLive face corner) = fault_at 13 face corner 0
 rows_place (Twice face) = fault_at 14 face 0 0
 rows_place (Equal first second) = fault_at 15 first second 0
@@ -69,7 +69,7 @@ numbered_place (MeetsPair pair) = fault_at 17 pair.a pair.b pair.face
 abbrev pub table_place : TableFault → TopoFault
 table_place NoSide = fault_at 23 0 0 0
 table_place Miscounted = fault_at 24 0 0 0
-table_place (NoBand place) = fault_at 25 (capped place) 0 0
+table_place (NoBand place) = fault_at 25 (capped_number place) 0 0
 
 -- why a directive is refused, and for which vertex
 abbrev pub use_place : UseWhy → TopoFault

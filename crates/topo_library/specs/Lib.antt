@@ -1,4 +1,5 @@
 pub mod Alone
+pub mod Calls
 pub mod Codes
 pub mod Faults
 pub mod Owned

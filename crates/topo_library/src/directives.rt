@@ -8,7 +8,7 @@ ghost use Rattle.track_engine.specs.Told.{step_told, pass_told};
 ghost use Rattle.track_held.specs.Asking.{AsksNothing};
 ghost use Rattle.track_held.specs.Fitting.{always};
 ghost use Rattle.track_held.specs.Tables.{by_cells};
-ghost use Rattle.topo_library.specs.Codes.{tracked, HandleHasDone, HandleHasTold, HandleHasSet, HandleHasRenumbered, HandleHasFitted, HandleHasShifted, HandleHasShiftedAll, HasShiftedEach, HandleHasShiftedEach};
+ghost use Rattle.topo_library.specs.Codes.{tracker_state, HolderHasDone, HolderHasTold, HolderHasSet, HolderHasRenumbered, HolderHasFitted, HolderHasShifted, HolderHasShiftedAll, HasShiftedEach, HolderHasShiftedEach};
 ghost use Rattle.topo_library.specs.Tellings.{way_told, edits_told, closing_of};
 
 use crate::codes::{DONE, EMPTY, RANGE};
@@ -32,7 +32,7 @@ pub(crate) fn advance(
 ) -> u32
     requires range { IsInRange what.now }
     requires asks { AsksNothing what.now }
-    ensures { HandleHasDone what.now topo.old.owned.value topo.new.owned.value
+    ensures { HolderHasDone what.now topo.old.owned.value topo.new.owned.value
         fault.old fault.new result }
 {
     let Some(mut b) = topo.take(alloc) else {
@@ -50,7 +50,7 @@ pub(crate) fn shift_one(
     row: &NamedPoint,
     fault: &mut TopoFault,
 ) -> u32
-    ensures { HandleHasShifted row.now topo.old.owned.value topo.new.owned.value
+    ensures { HolderHasShifted row.now topo.old.owned.value topo.new.owned.value
         fault.old fault.new result }
 {
     match asking(row) {
@@ -87,7 +87,7 @@ pub(crate) fn shift_each(
     rows: &[NamedPoint],
     fault: &mut TopoFault,
 ) -> u32
-    ensures { HandleHasShiftedEach rows.now topo.old.owned.value topo.new.owned.value
+    ensures { HolderHasShiftedEach rows.now topo.old.owned.value topo.new.owned.value
         fault.old fault.new result }
 {
     let Some(mut b) = topo.take(alloc) else {
@@ -105,7 +105,7 @@ pub(crate) fn shift_every(
     row: &NamedPoint,
     fault: &mut TopoFault,
 ) -> u32
-    ensures { HandleHasShiftedAll row.now topo.old.owned.value topo.new.owned.value
+    ensures { HolderHasShiftedAll row.now topo.old.owned.value topo.new.owned.value
         fault.old fault.new result }
 {
     match asking_all(row) {
@@ -116,9 +116,9 @@ pub(crate) fn shift_every(
 
 /// Takes a step with the tracker of a handle, and tells how.
 pub(crate) fn step(alloc: Global, topo: &mut Topo, way: &mut TopoWay, fault: &mut TopoFault) -> u32
-    ensures does { HandleHasDone Step topo.old.owned.value topo.new.owned.value
+    ensures does { HolderHasDone Step topo.old.owned.value topo.new.owned.value
         fault.old fault.new result }
-    ensures tells { HandleHasTold (λ t. way_told (step_told (tracked t))) topo.old.owned.value
+    ensures tells { HolderHasTold (λ t. way_told (step_told (tracker_state t))) topo.old.owned.value
         way.old way.new result }
 {
     let Some(mut b) = topo.take(alloc) else {
@@ -137,9 +137,9 @@ pub(crate) fn pass_with(
     edits: &mut TopoEdits,
     fault: &mut TopoFault,
 ) -> u32
-    ensures does { HandleHasDone (Pass kind) topo.old.owned.value topo.new.owned.value
+    ensures does { HolderHasDone (Pass kind) topo.old.owned.value topo.new.owned.value
         fault.old fault.new result }
-    ensures tells { HandleHasTold (λ t. edits_told (pass_told kind (tracked t)))
+    ensures tells { HolderHasTold (λ t. edits_told (pass_told kind (tracker_state t)))
         topo.old.owned.value edits.old edits.new result }
 {
     let Some(mut b) = topo.take(alloc) else {
@@ -152,9 +152,9 @@ pub(crate) fn pass_with(
 
 /// Closes a group with the tracker of a handle, and tells what became of it.
 pub(crate) fn close(alloc: Global, topo: &mut Topo, kept: &mut u32, fault: &mut TopoFault) -> u32
-    ensures does { HandleHasDone Close topo.old.owned.value topo.new.owned.value
+    ensures does { HolderHasDone Close topo.old.owned.value topo.new.owned.value
         fault.old fault.new result }
-    ensures tells { HandleHasTold (λ t. closing_of (tracked t).groups) topo.old.owned.value
+    ensures tells { HolderHasTold (λ t. closing_of (tracker_state t).groups) topo.old.owned.value
         kept.old kept.new result }
 {
     let Some(mut b) = topo.take(alloc) else {
@@ -168,7 +168,7 @@ pub(crate) fn close(alloc: Global, topo: &mut Topo, kept: &mut u32, fault: &mut 
 /// Sets all settings of the tracker of a handle.
 pub(crate) fn set(alloc: Global, topo: &mut Topo, set: Settings) -> u32
     requires { AreWithinLimits set }
-    ensures { HandleHasSet set topo.old.owned.value topo.new.owned.value result }
+    ensures { HolderHasSet set topo.old.owned.value topo.new.owned.value result }
 {
     let Some(mut b) = topo.take(alloc) else {
         return EMPTY;
@@ -180,7 +180,7 @@ pub(crate) fn set(alloc: Global, topo: &mut Topo, set: Settings) -> u32
 
 /// Numbers vertices and faces of the tracker of a handle anew.
 pub(crate) fn renumber(alloc: Global, topo: &mut Topo) -> u32
-    ensures { HandleHasRenumbered topo.old.owned.value topo.new.owned.value result }
+    ensures { HolderHasRenumbered topo.old.owned.value topo.new.owned.value result }
 {
     let Some(mut b) = topo.take(alloc) else {
         return EMPTY;
@@ -193,7 +193,7 @@ pub(crate) fn renumber(alloc: Global, topo: &mut Topo) -> u32
 /// Makes a pass by a band of lengths with the tracker of a handle, and tells how many edits it did and how many were refused.
 pub(crate) fn fit(alloc: Global, topo: &mut Topo, band: Band, edits: &mut TopoEdits) -> u32
     requires { IsBand band }
-    ensures { HandleHasFitted (always band) topo.old.owned.value topo.new.owned.value
+    ensures { HolderHasFitted (always band) topo.old.owned.value topo.new.owned.value
         edits.old edits.new result }
 {
     let Some(mut b) = topo.take(alloc) else {
@@ -211,7 +211,7 @@ pub(crate) fn fit_by(
     table: &BandTable<'_>,
     edits: &mut TopoEdits,
 ) -> u32
-    ensures { HandleHasFitted (by_cells table.now.cells table.now.bands.now)
+    ensures { HolderHasFitted (by_cells table.now.cells table.now.bands.now)
         topo.old.owned.value topo.new.owned.value edits.old edits.new result }
 {
     let Some(mut b) = topo.take(alloc) else {

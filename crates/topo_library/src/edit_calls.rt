@@ -1,7 +1,7 @@
 //! Edits are asked of the tracker of a handle, or its group is taken back.
 ghost use Rattle.std.specs.Prelude.{◌≡◌, ◌≤◌, length};
 ghost use Rattle.track_engine.specs.Effects.{edits_effect, undo_effect};
-ghost use Rattle.topo_library.specs.Codes.{tracked, HasWritten, HasAnswered, HasEdited, HandleHasEdited, HandleHasWritten, HandleHasTold};
+ghost use Rattle.topo_library.specs.Codes.{tracker_state, HasWritten, HasAnswered, HasEdited, HolderHasEdited, HolderHasWritten, HolderHasTold};
 ghost use Rattle.topo_library.specs.Tellings.{undone_of};
 
 use crate::codes::{DONE, EMPTY, NO_MEMORY, RANGE};
@@ -20,7 +20,7 @@ fn ask(
     taken: &mut usize,
 ) -> u32
     requires { length asked.now ≤ length into.old }
-    ensures writes { HasWritten (edits_effect asked.now (tracked tracker.old))
+    ensures writes { HasWritten (edits_effect asked.now (tracker_state tracker.old))
         tracker.old tracker.new result }
     ensures answers { HasAnswered asked.now tracker.old
         into.old into.new taken.old taken.new result }
@@ -63,7 +63,7 @@ pub(crate) fn edit_each(
     into: &mut [ToldAnswer],
     taken: &mut usize,
 ) -> u32
-    ensures { HandleHasEdited rows.now topo.old.owned.value topo.new.owned.value
+    ensures { HolderHasEdited rows.now topo.old.owned.value topo.new.owned.value
         into.old into.new taken.old taken.new result }
 {
     let Some(mut b) = topo.take(alloc) else {
@@ -76,9 +76,9 @@ pub(crate) fn edit_each(
 
 /// Takes the group of a handle's tracker back that was opened last, and tells whether one was open.
 pub(crate) fn undo(alloc: Global, topo: &mut Topo, became: &mut u32) -> u32
-    ensures does { HandleHasWritten (λ s. undo_effect s.groups s)
+    ensures does { HolderHasWritten (λ s. undo_effect s.groups s)
         topo.old.owned.value topo.new.owned.value result }
-    ensures tells { HandleHasTold (λ t. undone_of (tracked t).groups) topo.old.owned.value
+    ensures tells { HolderHasTold (λ t. undone_of (tracker_state t).groups) topo.old.owned.value
         became.old became.new result }
 {
     let Some(mut b) = topo.take(alloc) else {

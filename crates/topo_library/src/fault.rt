@@ -1,6 +1,6 @@
 //! Why something is refused, for C.
 ghost use Rattle.std.specs.Prelude.{◌≡◌};
-ghost use Rattle.topo_library.specs.Faults.{capped, shape_place, use_place, make_place, rows_place, numbered_place, table_place};
+ghost use Rattle.topo_library.specs.Faults.{capped_number, shape_place, use_place, make_place, rows_place, numbered_place, table_place};
 
 use mesh_base::{ShapeFault, UseWhy};
 use mesh_rows::RowsFault;
@@ -24,8 +24,8 @@ fn fault_at(why: u32, a: u32, b: u32, c: u32) -> TopoFault
 }
 
 // A count, or the greatest number that is told.
-fn capped(count: u64) -> u32
-    ensures { result ≡ capped count }
+fn capped_number(count: u64) -> u32
+    ensures { result ≡ capped_number count }
 {
     if count < u32::MAX as u64 {
         count as u32
@@ -39,8 +39,8 @@ fn shape_place(fault: ShapeFault) -> TopoFault
     ensures { result ≡ shape_place fault }
 {
     match fault {
-        ShapeFault::TooManyVertices { count } => fault_at(11, capped(count), 0, 0),
-        ShapeFault::TooManyFaces { count } => fault_at(12, capped(count), 0, 0),
+        ShapeFault::TooManyVertices { count } => fault_at(11, capped_number(count), 0, 0),
+        ShapeFault::TooManyFaces { count } => fault_at(12, capped_number(count), 0, 0),
         ShapeFault::NoVertex { face, corner } => fault_at(13, face, corner as u32, 0),
         ShapeFault::Repeated { face } => fault_at(14, face, 0, 0),
         ShapeFault::Doubled { first, second } => fault_at(15, first, second, 0),
@@ -64,8 +64,8 @@ fn rows_place(fault: RowsFault) -> TopoFault
     ensures { result ≡ rows_place fault }
 {
     match fault {
-        RowsFault::TooManyVertices { count } => fault_at(11, capped(count), 0, 0),
-        RowsFault::TooManyFaces { count } => fault_at(12, capped(count), 0, 0),
+        RowsFault::TooManyVertices { count } => fault_at(11, capped_number(count), 0, 0),
+        RowsFault::TooManyFaces { count } => fault_at(12, capped_number(count), 0, 0),
         RowsFault::NoVertex { face, corner } => fault_at(13, face.0, corner as u32, 0),
         RowsFault::Repeated { face } => fault_at(14, face.0, 0, 0),
         RowsFault::Doubled { first, second } => fault_at(15, first.0, second.0, 0),
@@ -96,7 +96,7 @@ pub(crate) fn table_place(fault: TableFault) -> TopoFault
     match fault {
         TableFault::NoSide => fault_at(23, 0, 0, 0),
         TableFault::Miscounted => fault_at(24, 0, 0, 0),
-        TableFault::NoBand { place } => fault_at(25, capped(place as u64), 0, 0),
+        TableFault::NoBand { place } => fault_at(25, capped_number(place as u64), 0, 0),
     }
 }
 

@@ -2,8 +2,8 @@
 ghost use Rattle.std.specs.Prelude.{◌≡◌, Some, None, MatchOption};
 ghost use Rattle.track_held.specs.Editing.{ends};
 ghost use Rattle.track_held.specs.Folding.{fold_effect, fold_told};
-ghost use Rattle.topo_library.specs.Codes.{tracked, HasWritten, HasTold};
-ghost use Rattle.topo_library.specs.Folded.{HandleHasClosedFold};
+ghost use Rattle.topo_library.specs.Codes.{tracker_state, HasWritten, HasTold};
+ghost use Rattle.topo_library.specs.Folded.{HolderHasClosedFold};
 
 use crate::codes::{DONE, EMPTY, NO_MEMORY, RANGE, SPENT, STOPPED};
 use crate::handle::Topo;
@@ -20,9 +20,9 @@ fn close_with(
     b: VertexId,
     answer: &mut ToldAnswer,
 ) -> u32
-    ensures writes { HasWritten (fold_effect a b (tracked tracker.old))
+    ensures writes { HasWritten (fold_effect a b (tracker_state tracker.old))
         tracker.old tracker.new result }
-    ensures tells { HasTold (λ t. fold_told a b (tracked t)) tracker.old
+    ensures tells { HasTold (λ t. fold_told a b (tracker_state t)) tracker.old
         answer.old answer.new result }
 {
     if !tracker.held.goes_on() {
@@ -48,7 +48,7 @@ pub(crate) fn close_fold(
     b: u32,
     answer: &mut ToldAnswer,
 ) -> u32
-    ensures { HandleHasClosedFold (ends a b) topo.old.owned.value topo.new.owned.value
+    ensures { HolderHasClosedFold (ends a b) topo.old.owned.value topo.new.owned.value
         answer.old answer.new result }
 {
     let Some((first, second)) = edge_ends(a, b) else {

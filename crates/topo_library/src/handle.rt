@@ -1,7 +1,7 @@
 //! The handle of a tracker, which a caller in C holds.
 ghost use Rattle.std.specs.Prelude.{◌≡◌, Some, None, IsSome, MatchOption};
 
-use crate::owned::Owned;
+use crate::owned::OwnedTracker;
 use crate::tracker::Tracker;
 use std::alloc::Global;
 use std::mem;
@@ -10,7 +10,7 @@ use std::mem;
 #[repr(C)]
 #[derive(Drop)]
 pub struct Topo {
-    pub owned: Owned,
+    pub owned: OwnedTracker,
     pub live: u32,
     ghost held: { live ≡ 1 → IsSome owned.value },
     ghost full: { IsSome owned.value → live ≡ 1 },
@@ -27,7 +27,7 @@ impl Topo {
             return None;
         }
         let none = Topo {
-            owned: Owned::empty(alloc),
+            owned: OwnedTracker::empty(alloc),
             live: 0,
         };
         let was = mem::replace(self, none);
@@ -39,7 +39,7 @@ impl Topo {
         ensures { self.new.owned.value ≡ Some b.value }
     {
         *self = Topo {
-            owned: Owned::of(b),
+            owned: OwnedTracker::of(b),
             live: 1,
         };
     }

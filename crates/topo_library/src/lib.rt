@@ -6,30 +6,26 @@
 //! The tracker is that of Brochu and Bridson, "Robust topological operations for dynamic explicit surfaces" (2009).
 #![tactic(auto)]
 
-ghost use Rattle.std.specs.Prelude.{◌≡◌, ◌≤◌, ◌<◌, None, Some};
+ghost use Rattle.std.specs.Prelude.{◌≡◌, ◌≤◌, ◌<◌, None};
 ghost use Rattle.grid_base.specs.declared.TheConstants.{LENGTH_MAX, ID_MAX};
-ghost use Rattle.grid_base.specs.Meeting.{MeetAt};
 ghost use Rattle.grid_base.specs.Motion.{NeverMeet};
-ghost use Rattle.grid_base.specs.Separation.{Passes};
 ghost use Rattle.mesh_sizing.specs.Sizes.{IsBand};
 ghost use Rattle.step_text.specs.Ranges.{IsFrom};
-ghost use Rattle.topo_library.specs.Alone.{AreInBox, places, HasTested, CanPass};
 ghost use Rattle.step_text.specs.declared.Directive.TheVariants as directive;
 ghost use Rattle.edit_base.specs.declared.PassKind.TheVariants as pass;
-ghost use Rattle.track_engine.specs.Told.{step_told, pass_told};
+ghost use Rattle.track_engine.specs.Told.{step_told};
 ghost use Rattle.track_engine.specs.Effects.{undo_effect};
 ghost use Rattle.track_held.specs.Events.{log_events};
 ghost use Rattle.track_held.specs.Reading.{named_points, named_faces, solid_vertices, star_of, beside_edge};
-ghost use Rattle.track_held.specs.Numbered.{given_rows};
 ghost use Rattle.track_held.specs.Editing.{ends};
-ghost use Rattle.track_held.specs.Fitting.{always};
-ghost use Rattle.track_held.specs.Tables.{table_fault, by_cells};
-ghost use Rattle.track_held.specs.declared.band_table.TableFault.{TableFault};
-ghost use Rattle.topo_library.specs.Faults.{table_place};
-ghost use Rattle.topo_library.specs.Folded.{HandleHasClosedFold};
+ghost use Rattle.track_held.specs.Tables.{table_fault};
+ghost use Rattle.topo_library.specs.Alone.{places};
 ghost use Rattle.topo_library.specs.Components.{told_components};
-ghost use Rattle.topo_library.specs.Codes.{tracked, lines_told, HandleHasDone, HandleHasTold, IsBeyond, AreSettings, HandleHasSet, HandleHasRenumbered, HandleHasFitted, HandleHasWritten, HandleHasEdited, HandleHasShifted, HandleHasShiftedAll, HandleHasShiftedEach, HasMade, HasMadeNumbered, HandleHasPut, HandleHasForgotten, HandleHasKept, HandleHasTakenLog, HandleHasCounted};
-ghost use Rattle.topo_library.specs.Tellings.{way_told, edits_told, closing_of, undone_of, settings_at, band_of};
+ghost use Rattle.topo_library.specs.Codes.{tracker_state, lines_told, AreSettings};
+ghost use Rattle.topo_library.specs.Calls.{HoldsTheSame, HandleIsBeyond, HandleHasDone, HandleHasTold, HandleHasPassed, HandleHasToldPass, HandleHasShifted, HandleHasShiftedAll, HandleHasShiftedEach};
+ghost use Rattle.topo_library.specs.Calls.{HandleHasWritten, HandleHasEdited, HandleHasClosedFold, HandleHasFittedTo, HandleHasFittedBy, HandleRefusesTable, HandleHasSet, HandleHasRenumbered};
+ghost use Rattle.topo_library.specs.Calls.{HasMade, HasMadeNumbered, HandleHasPut, HandleHasTakenLog, HandleHasForgotten, HandleHasKept, HandleHasCounted, HasTestedMeeting, HasTestedMotion};
+ghost use Rattle.topo_library.specs.Tellings.{way_told, closing_of, undone_of, band_of};
 
 mod alone;
 mod codes;
@@ -89,7 +85,7 @@ pub extern "C" fn topo_new(
     out: &mut Topo,
     fault: &mut TopoFault,
 ) -> u32
-    ensures { HasMade points.now faces.now out.new.owned.value fault.old fault.new result }
+    ensures { HasMade points.now faces.now out fault result }
 {
     make(alloc, points, faces, out, fault)
 }
@@ -108,8 +104,8 @@ pub extern "C" fn topo_new_numbered(
     out: &mut Topo,
     fault: &mut TopoFault,
 ) -> u32
-    ensures { let rows = given_rows points.now faces.now solids.now next_vertex next_face in
-        HasMadeNumbered points.now rows out.new.owned.value fault.old fault.new result }
+    ensures { HasMadeNumbered points.now faces.now solids.now next_vertex next_face
+        out fault result }
 {
     let given = NumberedRows {
         points,
@@ -148,8 +144,7 @@ pub extern "C" fn topo_shift(
     z: i32,
     fault: &mut TopoFault,
 ) -> u32
-    ensures { HandleHasShifted (record { id = v; x = x; y = y; z = z })
-        topo.old.owned.value topo.new.owned.value fault.old fault.new result }
+    ensures { HandleHasShifted (record { id = v; x = x; y = y; z = z }) topo fault result }
 {
     let row = row_of(v, x, y, z);
     shift_one(alloc, topo, &row, fault)
@@ -163,8 +158,7 @@ pub extern "C" fn topo_shift_each(
     shifts: &[NamedPoint],
     fault: &mut TopoFault,
 ) -> u32
-    ensures { HandleHasShiftedEach shifts.now topo.old.owned.value topo.new.owned.value
-        fault.old fault.new result }
+    ensures { HandleHasShiftedEach shifts.now topo fault result }
 {
     shift_each(alloc, topo, shifts, fault)
 }
@@ -180,8 +174,7 @@ pub extern "C" fn topo_shift_all(
     z: i32,
     fault: &mut TopoFault,
 ) -> u32
-    ensures { HandleHasShiftedAll (record { id = 0; x = x; y = y; z = z })
-        topo.old.owned.value topo.new.owned.value fault.old fault.new result }
+    ensures { HandleHasShiftedAll (record { id = 0; x = x; y = y; z = z }) topo fault result }
 {
     let row = row_of(0, x, y, z);
     shift_every(alloc, topo, &row, fault)
@@ -199,10 +192,8 @@ pub extern "C" fn topo_set(
     halvings: u32,
 ) -> u32
     ensures beyond { ¬ AreSettings depth passes zones halvings →
-        (result ≡ 3) × (topo.new.owned.value ≡ topo.old.owned.value) }
-    ensures sets { AreSettings depth passes zones halvings →
-        HandleHasSet (settings_at depth passes zones halvings)
-        topo.old.owned.value topo.new.owned.value result }
+        (result ≡ 3) × HoldsTheSame topo }
+    ensures sets { HandleHasSet depth passes zones halvings topo result }
 {
     match settings_at(depth, passes, zones, halvings) {
         Some(settings) => set(alloc, topo, settings),
@@ -219,10 +210,8 @@ pub extern "C" fn topo_step(
     way: &mut TopoWay,
     fault: &mut TopoFault,
 ) -> u32
-    ensures does { HandleHasDone directive.Step topo.old.owned.value topo.new.owned.value
-        fault.old fault.new result }
-    ensures tells { HandleHasTold (λ t. way_told (step_told (tracked t))) topo.old.owned.value
-        way.old way.new result }
+    ensures does { HandleHasDone directive.Step topo fault result }
+    ensures tells { HandleHasTold (λ t. way_told (step_told (tracker_state t))) topo way result }
 {
     step(alloc, topo, way, fault)
 }
@@ -236,14 +225,11 @@ pub extern "C" fn topo_split(
     edits: &mut TopoEdits,
     fault: &mut TopoFault,
 ) -> u32
-    ensures beyond { LENGTH_MAX < over → IsBeyond topo.old.owned.value topo.new.owned.value
-        fault.old fault.new result }
-    ensures does { over ≤ LENGTH_MAX → HandleHasDone (directive.Pass (pass.Split over))
-        topo.old.owned.value topo.new.owned.value fault.old fault.new result }
+    ensures beyond { LENGTH_MAX < over → HandleIsBeyond topo fault result }
+    ensures does { over ≤ LENGTH_MAX → HandleHasPassed (pass.Split over) topo fault result }
     ensures kept { LENGTH_MAX < over → edits.new ≡ edits.old }
     ensures tells { over ≤ LENGTH_MAX →
-        HandleHasTold (λ t. edits_told (pass_told (pass.Split over) (tracked t)))
-        topo.old.owned.value edits.old edits.new result }
+        HandleHasToldPass (pass.Split over) topo edits result }
 {
     if over > LENGTH_MAX {
         return RANGE;
@@ -260,14 +246,11 @@ pub extern "C" fn topo_collapse(
     edits: &mut TopoEdits,
     fault: &mut TopoFault,
 ) -> u32
-    ensures beyond { LENGTH_MAX < under → IsBeyond topo.old.owned.value topo.new.owned.value
-        fault.old fault.new result }
-    ensures does { under ≤ LENGTH_MAX → HandleHasDone (directive.Pass (pass.Collapse under))
-        topo.old.owned.value topo.new.owned.value fault.old fault.new result }
+    ensures beyond { LENGTH_MAX < under → HandleIsBeyond topo fault result }
+    ensures does { under ≤ LENGTH_MAX → HandleHasPassed (pass.Collapse under) topo fault result }
     ensures kept { LENGTH_MAX < under → edits.new ≡ edits.old }
     ensures tells { under ≤ LENGTH_MAX →
-        HandleHasTold (λ t. edits_told (pass_told (pass.Collapse under) (tracked t)))
-        topo.old.owned.value edits.old edits.new result }
+        HandleHasToldPass (pass.Collapse under) topo edits result }
 {
     if under > LENGTH_MAX {
         return RANGE;
@@ -283,10 +266,8 @@ pub extern "C" fn topo_flip(
     edits: &mut TopoEdits,
     fault: &mut TopoFault,
 ) -> u32
-    ensures does { HandleHasDone (directive.Pass pass.Flip)
-        topo.old.owned.value topo.new.owned.value fault.old fault.new result }
-    ensures tells { HandleHasTold (λ t. edits_told (pass_told pass.Flip (tracked t)))
-        topo.old.owned.value edits.old edits.new result }
+    ensures does { HandleHasPassed pass.Flip topo fault result }
+    ensures tells { HandleHasToldPass pass.Flip topo edits result }
 {
     pass_with(alloc, topo, PassKind::Flip, edits, fault)
 }
@@ -300,14 +281,11 @@ pub extern "C" fn topo_zip(
     edits: &mut TopoEdits,
     fault: &mut TopoFault,
 ) -> u32
-    ensures beyond { LENGTH_MAX < within → IsBeyond topo.old.owned.value topo.new.owned.value
-        fault.old fault.new result }
-    ensures does { within ≤ LENGTH_MAX → HandleHasDone (directive.Pass (pass.Zip within))
-        topo.old.owned.value topo.new.owned.value fault.old fault.new result }
+    ensures beyond { LENGTH_MAX < within → HandleIsBeyond topo fault result }
+    ensures does { within ≤ LENGTH_MAX → HandleHasPassed (pass.Zip within) topo fault result }
     ensures kept { LENGTH_MAX < within → edits.new ≡ edits.old }
     ensures tells { within ≤ LENGTH_MAX →
-        HandleHasTold (λ t. edits_told (pass_told (pass.Zip within) (tracked t)))
-        topo.old.owned.value edits.old edits.new result }
+        HandleHasToldPass (pass.Zip within) topo edits result }
 {
     if within > LENGTH_MAX {
         return RANGE;
@@ -323,10 +301,8 @@ pub extern "C" fn topo_pinch(
     edits: &mut TopoEdits,
     fault: &mut TopoFault,
 ) -> u32
-    ensures does { HandleHasDone (directive.Pass pass.Pinch)
-        topo.old.owned.value topo.new.owned.value fault.old fault.new result }
-    ensures tells { HandleHasTold (λ t. edits_told (pass_told pass.Pinch (tracked t)))
-        topo.old.owned.value edits.old edits.new result }
+    ensures does { HandleHasPassed pass.Pinch topo fault result }
+    ensures tells { HandleHasToldPass pass.Pinch topo edits result }
 {
     pass_with(alloc, topo, PassKind::Pinch, edits, fault)
 }
@@ -341,11 +317,9 @@ pub extern "C" fn topo_fit(
     high: u32,
     edits: &mut TopoEdits,
 ) -> u32
-    ensures beyond { ¬ IsBand (band_of low high) →
-        (result ≡ 3) × (topo.new.owned.value ≡ topo.old.owned.value)
-        × (edits.new ≡ edits.old) }
-    ensures fits { IsBand (band_of low high) → HandleHasFitted (always (band_of low high))
-        topo.old.owned.value topo.new.owned.value edits.old edits.new result }
+    ensures beyond { ¬ IsBand (band_of low high) → HandleIsBeyond topo edits result }
+    ensures fits { IsBand (band_of low high) →
+        HandleHasFittedTo (band_of low high) topo edits result }
 {
     match band_of(low, high) {
         Some(band) => fit(alloc, topo, band, edits),
@@ -364,12 +338,8 @@ pub extern "C" fn topo_fit_by(
     edits: &mut TopoEdits,
     fault: &mut TopoFault,
 ) -> u32
-    ensures refused { (why : TableFault) → table_fault cells.now bands.now ≡ Some why →
-        (result ≡ 2) × (topo.new.owned.value ≡ topo.old.owned.value)
-        × (edits.new ≡ edits.old) × (fault.new ≡ table_place why) }
-    ensures fits { table_fault cells.now bands.now ≡ None →
-        HandleHasFitted (by_cells cells.now bands.now)
-        topo.old.owned.value topo.new.owned.value edits.old edits.new result }
+    ensures refused { HandleRefusesTable cells.now bands.now topo edits fault result }
+    ensures fits { HandleHasFittedBy cells.now bands.now topo edits result }
     ensures faultless { table_fault cells.now bands.now ≡ None → fault.new ≡ fault.old }
 {
     match BandTable::new(*cells, bands) {
@@ -392,8 +362,7 @@ pub extern "C" fn topo_edit_each(
     answers: &mut [ToldAnswer],
     taken: &mut usize,
 ) -> u32
-    ensures { HandleHasEdited asked.now topo.old.owned.value topo.new.owned.value
-        answers.old answers.new taken.old taken.new result }
+    ensures { HandleHasEdited asked.now topo answers taken result }
 {
     edit_each(alloc, topo, asked, answers, taken)
 }
@@ -410,8 +379,7 @@ pub extern "C" fn topo_close_fold(
     b: u32,
     answer: &mut ToldAnswer,
 ) -> u32
-    ensures { HandleHasClosedFold (ends a b) topo.old.owned.value topo.new.owned.value
-        answer.old answer.new result }
+    ensures { HandleHasClosedFold (ends a b) topo answer result }
 {
     close_fold(alloc, topo, a, b, answer)
 }
@@ -420,10 +388,8 @@ pub extern "C" fn topo_close_fold(
 /// beyond its limit; refused where the vertex does not live.
 #[unsafe(no_mangle)]
 pub extern "C" fn topo_solid(alloc: Global, topo: &mut Topo, v: u32, fault: &mut TopoFault) -> u32
-    ensures beyond { ¬ IsFrom 1 ID_MAX v → IsBeyond topo.old.owned.value topo.new.owned.value
-        fault.old fault.new result }
-    ensures does { IsFrom 1 ID_MAX v → HandleHasDone (directive.Solid v)
-        topo.old.owned.value topo.new.owned.value fault.old fault.new result }
+    ensures beyond { ¬ IsFrom 1 ID_MAX v → HandleIsBeyond topo fault result }
+    ensures does { IsFrom 1 ID_MAX v → HandleHasDone (directive.Solid v) topo fault result }
 {
     if v < 1 || v > ID_MAX {
         return RANGE;
@@ -434,8 +400,7 @@ pub extern "C" fn topo_solid(alloc: Global, topo: &mut Topo, v: u32, fault: &mut
 /// Opens a group of calls, which is kept whole or taken back whole.
 #[unsafe(no_mangle)]
 pub extern "C" fn topo_open(alloc: Global, topo: &mut Topo, fault: &mut TopoFault) -> u32
-    ensures { HandleHasDone directive.Group topo.old.owned.value topo.new.owned.value
-        fault.old fault.new result }
+    ensures { HandleHasDone directive.Group topo fault result }
 {
     advance(alloc, topo, &Directive::Group, fault)
 }
@@ -449,10 +414,8 @@ pub extern "C" fn topo_close(
     kept: &mut u32,
     fault: &mut TopoFault,
 ) -> u32
-    ensures does { HandleHasDone directive.Close topo.old.owned.value topo.new.owned.value
-        fault.old fault.new result }
-    ensures tells { HandleHasTold (λ t. closing_of (tracked t).groups) topo.old.owned.value
-        kept.old kept.new result }
+    ensures does { HandleHasDone directive.Close topo fault result }
+    ensures tells { HandleHasTold (λ t. closing_of (tracker_state t).groups) topo kept result }
 {
     close(alloc, topo, kept, fault)
 }
@@ -460,10 +423,8 @@ pub extern "C" fn topo_close(
 /// Takes the group that was opened last back, whatever was done in it, and tells that, or that none was open.
 #[unsafe(no_mangle)]
 pub extern "C" fn topo_undo(alloc: Global, topo: &mut Topo, became: &mut u32) -> u32
-    ensures does { HandleHasWritten (λ s. undo_effect s.groups s)
-        topo.old.owned.value topo.new.owned.value result }
-    ensures tells { HandleHasTold (λ t. undone_of (tracked t).groups) topo.old.owned.value
-        became.old became.new result }
+    ensures does { HandleHasWritten (λ s. undo_effect s.groups s) topo result }
+    ensures tells { HandleHasTold (λ t. undone_of (tracker_state t).groups) topo became result }
 {
     undo(alloc, topo, became)
 }
@@ -471,8 +432,7 @@ pub extern "C" fn topo_undo(alloc: Global, topo: &mut Topo, became: &mut u32) ->
 /// How many vertices and faces live, which ids the next vertex and the next face get, how many steps were taken, and how many bytes the log has.
 #[unsafe(no_mangle)]
 pub extern "C" fn topo_counts(alloc: Global, topo: &mut Topo, counts: &mut TopoCounted) -> u32
-    ensures { HandleHasCounted topo.old.owned.value topo.new.owned.value
-        counts.old counts.new result }
+    ensures { HandleHasCounted topo counts result }
 {
     count(alloc, topo, counts)
 }
@@ -485,8 +445,7 @@ pub extern "C" fn topo_points(
     into: &mut [NamedPoint],
     size: &mut usize,
 ) -> u32
-    ensures { HandleHasPut (λ t. named_points (tracked t).mesh)
-        topo.old.owned.value topo.new.owned.value into.old into.new size.old size.new result }
+    ensures { HandleHasPut (λ t. named_points (tracker_state t).mesh) topo into size result }
 {
     read_points(alloc, topo, into, size)
 }
@@ -499,8 +458,7 @@ pub extern "C" fn topo_faces(
     into: &mut [NamedFace],
     size: &mut usize,
 ) -> u32
-    ensures { HandleHasPut (λ t. named_faces (tracked t).mesh)
-        topo.old.owned.value topo.new.owned.value into.old into.new size.old size.new result }
+    ensures { HandleHasPut (λ t. named_faces (tracker_state t).mesh) topo into size result }
 {
     read_faces(alloc, topo, into, size)
 }
@@ -515,8 +473,7 @@ pub extern "C" fn topo_star(
     into: &mut [NamedFace],
     size: &mut usize,
 ) -> u32
-    ensures { HandleHasPut (λ t. star_of (tracked t).mesh v)
-        topo.old.owned.value topo.new.owned.value into.old into.new size.old size.new result }
+    ensures { HandleHasPut (λ t. star_of (tracker_state t).mesh v) topo into size result }
 {
     read_star(alloc, topo, v, into, size)
 }
@@ -532,8 +489,7 @@ pub extern "C" fn topo_beside(
     into: &mut [NamedFace],
     size: &mut usize,
 ) -> u32
-    ensures { HandleHasPut (λ t. beside_edge (tracked t).mesh a b)
-        topo.old.owned.value topo.new.owned.value into.old into.new size.old size.new result }
+    ensures { HandleHasPut (λ t. beside_edge (tracker_state t).mesh a b) topo into size result }
 {
     read_beside(alloc, topo, (a, b), into, size)
 }
@@ -546,8 +502,7 @@ pub extern "C" fn topo_solids(
     into: &mut [u32],
     size: &mut usize,
 ) -> u32
-    ensures { HandleHasPut (λ t. solid_vertices (tracked t).mesh)
-        topo.old.owned.value topo.new.owned.value into.old into.new size.old size.new result }
+    ensures { HandleHasPut (λ t. solid_vertices (tracker_state t).mesh) topo into size result }
 {
     read_solids(alloc, topo, into, size)
 }
@@ -562,8 +517,7 @@ pub extern "C" fn topo_components(
     into: &mut [TopoComponent],
     size: &mut usize,
 ) -> u32
-    ensures { HandleHasPut (λ t. told_components (tracked t).mesh)
-        topo.old.owned.value topo.new.owned.value into.old into.new size.old size.new result }
+    ensures { HandleHasPut (λ t. told_components (tracker_state t).mesh) topo into size result }
 {
     read_components(alloc, topo, into, size)
 }
@@ -577,8 +531,7 @@ pub extern "C" fn topo_events(
     into: &mut [Event],
     size: &mut usize,
 ) -> u32
-    ensures { HandleHasPut (λ t. log_events (lines_told t))
-        topo.old.owned.value topo.new.owned.value into.old into.new size.old size.new result }
+    ensures { HandleHasPut (λ t. log_events (lines_told t)) topo into size result }
 {
     read_events(alloc, topo, into, size)
 }
@@ -587,7 +540,7 @@ pub extern "C" fn topo_events(
 /// stay solid, the same is asked of each, settings and steps stay, and what was told is forgotten. Refused where a group is open.
 #[unsafe(no_mangle)]
 pub extern "C" fn topo_renumber(alloc: Global, topo: &mut Topo) -> u32
-    ensures { HandleHasRenumbered topo.old.owned.value topo.new.owned.value result }
+    ensures { HandleHasRenumbered topo result }
 {
     renumber(alloc, topo)
 }
@@ -596,7 +549,7 @@ pub extern "C" fn topo_renumber(alloc: Global, topo: &mut Topo) -> u32
 /// keeps them. What is not kept is in no log and no events.
 #[unsafe(no_mangle)]
 pub extern "C" fn topo_keep(alloc: Global, topo: &mut Topo, lines: u32) -> u32
-    ensures { HandleHasKept lines topo.old.owned.value topo.new.owned.value result }
+    ensures { HandleHasKept lines topo result }
 {
     if lines > 1 {
         return RANGE;
@@ -607,7 +560,7 @@ pub extern "C" fn topo_keep(alloc: Global, topo: &mut Topo, lines: u32) -> u32
 /// Forgets what was told since the log was last taken.
 #[unsafe(no_mangle)]
 pub extern "C" fn topo_forget(alloc: Global, topo: &mut Topo) -> u32
-    ensures { HandleHasForgotten topo.old.owned.value topo.new.owned.value result }
+    ensures { HandleHasForgotten topo result }
 {
     forget_log(alloc, topo)
 }
@@ -615,8 +568,7 @@ pub extern "C" fn topo_forget(alloc: Global, topo: &mut Topo) -> u32
 /// Puts what was told since the log was last taken into a buffer, where it fits, and forgets it then; and tells how many bytes it has.
 #[unsafe(no_mangle)]
 pub extern "C" fn topo_log(alloc: Global, topo: &mut Topo, into: &mut [u8], size: &mut usize) -> u32
-    ensures { HandleHasTakenLog topo.old.owned.value topo.new.owned.value
-        into.old into.new size.old size.new result }
+    ensures { HandleHasTakenLog topo into size result }
 {
     read_log(alloc, topo, into, size)
 }
@@ -641,7 +593,7 @@ pub extern "C" fn topo_version() -> u32
 /// outside the box is beyond its limit.
 #[unsafe(no_mangle)]
 pub extern "C" fn topo_meets(at: &TopoFive, meets: &mut u32) -> u32
-    ensures { HasTested (AreInBox at.now) (MeetAt (places at.now)) meets.old meets.new result }
+    ensures { HasTestedMeeting at.now meets result }
 {
     tell_meets(at, meets)
 }
@@ -650,8 +602,7 @@ pub extern "C" fn topo_meets(at: &TopoFive, meets: &mut u32) -> u32
 /// else 0. Where they pass they meet at no fraction of the time. A point outside the box and a depth above `DEPTH_MAX` are beyond their limit.
 #[unsafe(no_mangle)]
 pub extern "C" fn topo_passes(start: &TopoFive, end: &TopoFive, depth: u32, passes: &mut u32) -> u32
-    ensures tests { HasTested (CanPass depth start.now end.now)
-        (Passes depth (places start.now) (places end.now)) passes.old passes.new result }
+    ensures tests { HasTestedMotion depth start.now end.now passes result }
     ensures clear { result ≡ 0 → passes.new ≡ 1 →
         NeverMeet (places start.now) (places end.now) }
 {

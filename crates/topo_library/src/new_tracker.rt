@@ -1,6 +1,6 @@
 //! A tracker is made, and put into a handle.
 ghost use Rattle.std.specs.Prelude.{◌≡◌, None};
-ghost use Rattle.topo_library.specs.Codes.{HasMade};
+ghost use Rattle.topo_library.specs.Codes.{HolderHasMade};
 
 use crate::codes::{DONE, NO_MEMORY, REFUSED};
 use crate::fault::{TopoFault, make_place};
@@ -18,7 +18,7 @@ fn put_new(
     fault: &mut TopoFault,
 ) -> u32
     requires { out.old.owned.value ≡ None }
-    ensures { HasMade points.now faces.now out.new.owned.value fault.old fault.new result }
+    ensures { HolderHasMade points.now faces.now out.new.owned.value fault.old fault.new result }
 {
     match track(alloc, points, faces) {
         Ok(held) => match Box::new(alloc, Tracker { held }) {
@@ -44,7 +44,7 @@ pub(crate) fn make(
     out: &mut Topo,
     fault: &mut TopoFault,
 ) -> u32
-    ensures { HasMade points.now faces.now out.new.owned.value fault.old fault.new result }
+    ensures { HolderHasMade points.now faces.now out.new.owned.value fault.old fault.new result }
 {
     drop(out.take(alloc));
     put_new(alloc, points, faces, out, fault)

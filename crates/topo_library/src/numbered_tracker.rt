@@ -1,7 +1,7 @@
 //! A tracker of vertices and faces with their ids is made, and put into a handle.
 ghost use Rattle.std.specs.Prelude.{◌≡◌, None};
 ghost use Rattle.track_held.specs.Numbered.{given_rows};
-ghost use Rattle.topo_library.specs.Codes.{HasMadeNumbered};
+ghost use Rattle.topo_library.specs.Codes.{HolderHasMadeNumbered};
 
 use crate::codes::{DONE, NO_MEMORY, REFUSED};
 use crate::fault::{TopoFault, numbered_place};
@@ -30,7 +30,7 @@ fn put_numbered(
     requires { out.old.owned.value ≡ None }
     ensures { let rows = given_rows given.now.points.now given.now.faces.now given.now.solids.now
         given.now.next_vertex given.now.next_face in
-        HasMadeNumbered given.now.points.now rows
+        HolderHasMadeNumbered given.now.points.now rows
         out.new.owned.value fault.old fault.new result }
 {
     let next_vertex = given.next_vertex;
@@ -67,7 +67,7 @@ pub(crate) fn make_numbered(
 ) -> u32
     ensures { let rows = given_rows given.now.points.now given.now.faces.now given.now.solids.now
         given.now.next_vertex given.now.next_face in
-        HasMadeNumbered given.now.points.now rows
+        HolderHasMadeNumbered given.now.points.now rows
         out.new.owned.value fault.old fault.new result }
 {
     drop(out.take(alloc));

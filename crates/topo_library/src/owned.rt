@@ -5,7 +5,7 @@ ghost use Rattle.std.specs.Coded.{coded_option};
 ghost use Rattle.topo_library.specs.contracts.tracker.Tracker.{the_row};
 ghost use Rattle.topo_library.specs.Owned.{owned_owns};
 
-use crate::loose::Loose;
+use crate::loose::LooseBox;
 use crate::tracker::Tracker;
 use std::alloc::Global;
 use std::marker::Model;
@@ -13,62 +13,62 @@ use std::marker::Model;
 // The state in the box of the pointer `at`, or nothing.
 #[repr(C)]
 #[derive(Drop)]
-pub struct Owned {
+pub struct OwnedTracker {
     at: *mut u8,
     alloc: Global,
     pub ghost value: { Option Tracker } by { coded_option the_row.coded },
 }
 
-impl Model for Owned {
+impl Model for OwnedTracker {
     ghost also_owns = { λ h. owned_owns h.alloc h.at h.value };
 }
 
 // Nothing.
-fn nothing(alloc: Global) -> Owned
+fn nothing(alloc: Global) -> OwnedTracker
     ensures { result.value ≡ None }
 {
-    Owned {
+    OwnedTracker {
         at: std::ptr::null_mut(),
         alloc,
     }
 }
 
 // The pointer of a box.
-fn seal(l: Loose<Tracker, Global>) -> Owned
+fn seal(l: LooseBox<Tracker, Global>) -> OwnedTracker
     ensures { result.value ≡ Some l.value }
 {
-    let Loose { ptr, alloc } = l;
-    Owned {
+    let LooseBox { ptr, alloc } = l;
+    OwnedTracker {
         at: ptr as *mut u8,
         alloc,
     }
 }
 
 // The box of a pointer.
-fn unseal(h: Owned) -> Loose<Tracker, Global>
+fn unseal(h: OwnedTracker) -> LooseBox<Tracker, Global>
     requires { IsSome h.value }
     ensures { Some result.value ≡ h.value }
 {
-    let Owned { at, alloc } = h;
-    Loose {
+    let OwnedTracker { at, alloc } = h;
+    LooseBox {
         ptr: at as *mut Tracker,
         alloc,
     }
 }
 
-impl Owned {
+impl OwnedTracker {
     // Nothing.
-    pub(crate) fn empty(alloc: Global) -> Owned
+    pub(crate) fn empty(alloc: Global) -> OwnedTracker
         ensures { result.value ≡ None }
     {
         nothing(alloc)
     }
 
     // The value of a box.
-    pub(crate) fn of(b: Box<Tracker>) -> Owned
+    pub(crate) fn of(b: Box<Tracker>) -> OwnedTracker
         ensures { result.value ≡ Some b.value }
     {
-        seal(Loose::of(b))
+        seal(LooseBox::of(b))
     }
 
     // The box of the value.

@@ -3,7 +3,7 @@ ghost use Rattle.std.specs.Prelude.{◌≡◌, ◌≢◌};
 ghost use Rattle.track_held.specs.Events.{log_events};
 ghost use Rattle.track_held.specs.Reading.{named_points, named_faces, solid_vertices, star_of, beside_edge};
 ghost use Rattle.topo_library.specs.Components.{told_components};
-ghost use Rattle.topo_library.specs.Codes.{tracked, lines_told, HasPut, HandleHasPut, HasForgotten, HandleHasForgotten, HasKept, HandleHasKeptBy, HasTakenLog, HandleHasTakenLog, counts_of, HandleHasCounted};
+ghost use Rattle.topo_library.specs.Codes.{tracker_state, lines_told, HasPut, HolderHasPut, HasForgotten, HolderHasForgotten, HasKept, HolderHasKeptBy, HasTakenLog, HolderHasTakenLog, counts_of, HolderHasCounted};
 
 use crate::codes::{DONE, EMPTY, NO_MEMORY, RANGE};
 use crate::components::{TopoComponent, told_components};
@@ -28,7 +28,7 @@ fn put<T: Copy + Drop>(rows: &[T], into: &mut [T], size: &mut usize) -> u32
 
 // Puts the live vertices of a tracker into a buffer.
 fn put_points(alloc: Global, tracker: &Tracker, into: &mut [NamedPoint], size: &mut usize) -> u32
-    ensures { HasPut (named_points (tracked tracker.now).mesh)
+    ensures { HasPut (named_points (tracker_state tracker.now).mesh)
         into.old into.new size.old size.new result }
 {
     match named_points(alloc, tracker.held.mesh()) {
@@ -39,7 +39,7 @@ fn put_points(alloc: Global, tracker: &Tracker, into: &mut [NamedPoint], size: &
 
 // Puts the live faces of a tracker into a buffer.
 fn put_faces(alloc: Global, tracker: &Tracker, into: &mut [NamedFace], size: &mut usize) -> u32
-    ensures { HasPut (named_faces (tracked tracker.now).mesh)
+    ensures { HasPut (named_faces (tracker_state tracker.now).mesh)
         into.old into.new size.old size.new result }
 {
     match named_faces(alloc, tracker.held.mesh()) {
@@ -55,7 +55,7 @@ pub(crate) fn read_points(
     into: &mut [NamedPoint],
     size: &mut usize,
 ) -> u32
-    ensures { HandleHasPut (λ t. named_points (tracked t).mesh)
+    ensures { HolderHasPut (λ t. named_points (tracker_state t).mesh)
         topo.old.owned.value topo.new.owned.value into.old into.new size.old size.new result }
 {
     let Some(b) = topo.take(alloc) else {
@@ -73,7 +73,7 @@ pub(crate) fn read_faces(
     into: &mut [NamedFace],
     size: &mut usize,
 ) -> u32
-    ensures { HandleHasPut (λ t. named_faces (tracked t).mesh)
+    ensures { HolderHasPut (λ t. named_faces (tracker_state t).mesh)
         topo.old.owned.value topo.new.owned.value into.old into.new size.old size.new result }
 {
     let Some(b) = topo.take(alloc) else {
@@ -92,7 +92,7 @@ fn put_star(
     into: &mut [NamedFace],
     size: &mut usize,
 ) -> u32
-    ensures { HasPut (star_of (tracked tracker.now).mesh v)
+    ensures { HasPut (star_of (tracker_state tracker.now).mesh v)
         into.old into.new size.old size.new result }
 {
     match star_of(alloc, tracker.held.mesh(), VertexId(v)) {
@@ -110,7 +110,7 @@ fn put_beside(
     into: &mut [NamedFace],
     size: &mut usize,
 ) -> u32
-    ensures { HasPut (beside_edge (tracked tracker.now).mesh a b)
+    ensures { HasPut (beside_edge (tracker_state tracker.now).mesh a b)
         into.old into.new size.old size.new result }
 {
     match beside_edge(alloc, tracker.held.mesh(), VertexId(a), VertexId(b)) {
@@ -127,7 +127,7 @@ pub(crate) fn read_star(
     into: &mut [NamedFace],
     size: &mut usize,
 ) -> u32
-    ensures { HandleHasPut (λ t. star_of (tracked t).mesh v)
+    ensures { HolderHasPut (λ t. star_of (tracker_state t).mesh v)
         topo.old.owned.value topo.new.owned.value into.old into.new size.old size.new result }
 {
     let Some(b) = topo.take(alloc) else {
@@ -146,7 +146,7 @@ pub(crate) fn read_beside(
     into: &mut [NamedFace],
     size: &mut usize,
 ) -> u32
-    ensures { HandleHasPut (λ t. beside_edge (tracked t).mesh ends.0 ends.1)
+    ensures { HolderHasPut (λ t. beside_edge (tracker_state t).mesh ends.0 ends.1)
         topo.old.owned.value topo.new.owned.value into.old into.new size.old size.new result }
 {
     let Some(b) = topo.take(alloc) else {
@@ -159,7 +159,7 @@ pub(crate) fn read_beside(
 
 // Puts the solid vertices of a tracker into a buffer.
 fn put_solids(alloc: Global, tracker: &Tracker, into: &mut [u32], size: &mut usize) -> u32
-    ensures { HasPut (solid_vertices (tracked tracker.now).mesh)
+    ensures { HasPut (solid_vertices (tracker_state tracker.now).mesh)
         into.old into.new size.old size.new result }
 {
     match solid_vertices(alloc, tracker.held.mesh()) {
@@ -170,7 +170,7 @@ fn put_solids(alloc: Global, tracker: &Tracker, into: &mut [u32], size: &mut usi
 
 /// Puts the solid vertices, by rising id, into a buffer.
 pub(crate) fn read_solids(alloc: Global, topo: &mut Topo, into: &mut [u32], size: &mut usize) -> u32
-    ensures { HandleHasPut (λ t. solid_vertices (tracked t).mesh)
+    ensures { HolderHasPut (λ t. solid_vertices (tracker_state t).mesh)
         topo.old.owned.value topo.new.owned.value into.old into.new size.old size.new result }
 {
     let Some(b) = topo.take(alloc) else {
@@ -188,7 +188,7 @@ fn put_components(
     into: &mut [TopoComponent],
     size: &mut usize,
 ) -> u32
-    ensures { HasPut (told_components (tracked tracker.now).mesh)
+    ensures { HasPut (told_components (tracker_state tracker.now).mesh)
         into.old into.new size.old size.new result }
 {
     match told_components(alloc, tracker.held.mesh()) {
@@ -204,7 +204,7 @@ pub(crate) fn read_components(
     into: &mut [TopoComponent],
     size: &mut usize,
 ) -> u32
-    ensures { HandleHasPut (λ t. told_components (tracked t).mesh)
+    ensures { HolderHasPut (λ t. told_components (tracker_state t).mesh)
         topo.old.owned.value topo.new.owned.value into.old into.new size.old size.new result }
 {
     let Some(b) = topo.take(alloc) else {
@@ -232,7 +232,7 @@ pub(crate) fn read_events(
     into: &mut [Event],
     size: &mut usize,
 ) -> u32
-    ensures { HandleHasPut (λ t. log_events (lines_told t))
+    ensures { HolderHasPut (λ t. log_events (lines_told t))
         topo.old.owned.value topo.new.owned.value into.old into.new size.old size.new result }
 {
     let Some(b) = topo.take(alloc) else {
@@ -252,7 +252,7 @@ fn keep(tracker: &mut Tracker, on: bool)
 
 /// Keeps the lines that are told from here on, or none.
 pub(crate) fn keep_lines(alloc: Global, topo: &mut Topo, on: bool) -> u32
-    ensures { HandleHasKeptBy on topo.old.owned.value topo.new.owned.value result }
+    ensures { HolderHasKeptBy on topo.old.owned.value topo.new.owned.value result }
 {
     let Some(mut b) = topo.take(alloc) else {
         return EMPTY;
@@ -271,7 +271,7 @@ fn clear(tracker: &mut Tracker)
 
 /// Forgets what was told.
 pub(crate) fn forget_log(alloc: Global, topo: &mut Topo) -> u32
-    ensures { HandleHasForgotten topo.old.owned.value topo.new.owned.value result }
+    ensures { HolderHasForgotten topo.old.owned.value topo.new.owned.value result }
 {
     let Some(mut b) = topo.take(alloc) else {
         return EMPTY;
@@ -297,7 +297,7 @@ fn take_log(tracker: &mut Tracker, into: &mut [u8], size: &mut usize) -> u32
 
 /// Puts the log into a buffer, where it fits, and then forgets it.
 pub(crate) fn read_log(alloc: Global, topo: &mut Topo, into: &mut [u8], size: &mut usize) -> u32
-    ensures { HandleHasTakenLog topo.old.owned.value topo.new.owned.value
+    ensures { HolderHasTakenLog topo.old.owned.value topo.new.owned.value
         into.old into.new size.old size.new result }
 {
     let Some(mut b) = topo.take(alloc) else {
@@ -325,7 +325,7 @@ fn counts_of(tracker: &Tracker) -> TopoCounted
 
 /// How many vertices and faces live, which ids come next, how many steps were taken, and how many lines were told.
 pub(crate) fn count(alloc: Global, topo: &mut Topo, counts: &mut TopoCounted) -> u32
-    ensures { HandleHasCounted topo.old.owned.value topo.new.owned.value
+    ensures { HolderHasCounted topo.old.owned.value topo.new.owned.value
         counts.old counts.new result }
 {
     let Some(b) = topo.take(alloc) else {

@@ -29,7 +29,7 @@ impl Tracker {
     ghost use Rattle.track_held.specs.Fitting.{always};
     ghost use Rattle.track_held.specs.Tables.{by_cells};
     ghost use Rattle.track_engine.specs.Effects.{edits_effect, edited_answers, undo_effect};
-    ghost use Rattle.topo_library.specs.Codes.{tracked, HasDone, HasTold, HasSet, HasFitted, HasWritten, HasRenumbered};
+    ghost use Rattle.topo_library.specs.Codes.{tracker_state, HasDone, HasTold, HasSet, HasFitted, HasWritten, HasRenumbered};
     ghost use Rattle.topo_library.specs.Tellings.{way_told, edits_told, closing_of, undone_of};
 
     /// Does a directive, and answers how that went.
@@ -57,7 +57,7 @@ impl Tracker {
     /// Takes a step, and answers how that went.
     pub(crate) fn step(&mut self, alloc: Global, way: &mut TopoWay, fault: &mut TopoFault) -> u32
         ensures does { HasDone Step self.old self.new fault.old fault.new result }
-        ensures tells { HasTold (λ t. way_told (step_told (tracked t))) self.old
+        ensures tells { HasTold (λ t. way_told (step_told (tracker_state t))) self.old
             way.old way.new result }
     {
         if !self.held.goes_on() {
@@ -89,7 +89,7 @@ impl Tracker {
         fault: &mut TopoFault,
     ) -> u32
         ensures does { HasDone (Pass kind) self.old self.new fault.old fault.new result }
-        ensures tells { HasTold (λ t. edits_told (pass_told kind (tracked t))) self.old
+        ensures tells { HasTold (λ t. edits_told (pass_told kind (tracker_state t))) self.old
             edits.old edits.new result }
     {
         if !self.held.goes_on() {
@@ -110,7 +110,7 @@ impl Tracker {
     /// Closes the group that was opened last, and answers how that went.
     pub(crate) fn close(&mut self, alloc: Global, kept: &mut u32, fault: &mut TopoFault) -> u32
         ensures does { HasDone Close self.old self.new fault.old fault.new result }
-        ensures tells { HasTold (λ t. closing_of (tracked t).groups) self.old
+        ensures tells { HasTold (λ t. closing_of (tracker_state t).groups) self.old
             kept.old kept.new result }
     {
         let closing = self.held.closing();
@@ -168,10 +168,10 @@ impl Tracker {
 
     /// Asks edits, and answers how that went; at 0 what came of each stands behind the answers.
     pub(crate) fn edits(&mut self, alloc: Global, asked: &[Asked], answers: &mut Answers) -> u32
-        ensures writes { HasWritten (edits_effect asked.now (tracked self.old))
+        ensures writes { HasWritten (edits_effect asked.now (tracker_state self.old))
             self.old self.new result }
         ensures answers { result ≡ 0 →
-            answers.new ≡ answers.old ++ edited_answers asked.now (tracked self.old) }
+            answers.new ≡ answers.old ++ edited_answers asked.now (tracker_state self.old) }
     {
         if !self.held.goes_on() {
             return STOPPED;
@@ -187,9 +187,9 @@ impl Tracker {
 
     /// Takes the group that was opened last back, and answers how that went.
     pub(crate) fn undo(&mut self, alloc: Global, became: &mut u32) -> u32
-        ensures writes { HasWritten (undo_effect (tracked self.old).groups (tracked self.old))
+        ensures writes { HasWritten (undo_effect (tracker_state self.old).groups (tracker_state self.old))
             self.old self.new result }
-        ensures tells { HasTold (λ t. undone_of (tracked t).groups) self.old
+        ensures tells { HasTold (λ t. undone_of (tracker_state t).groups) self.old
             became.old became.new result }
     {
         if !self.held.goes_on() {

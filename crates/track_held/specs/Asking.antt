@@ -1,5 +1,5 @@
 -- What is asked of a tracker by a caller.
-use Rattle.std.specs.Prelude.{◌≡◌}
+use Rattle.std.specs.Prelude.{◌≡◌, Option, MatchOption}
 use Rattle.grid_base.specs.declared.Shift.{Shift}
 use Rattle.grid_base.specs.declared.TheConstants.{ID_MAX, SHIFT_MAX}
 use Rattle.grid_base.specs.Components.{FitWithin}
@@ -8,6 +8,10 @@ use Rattle.step_text.specs.Ranges.{IsFrom}
 use Rattle.step_text.specs.declared.Directive.{Directive}
 use Rattle.step_text.specs.declared.Directive.TheVariants.{ShiftOne, ShiftAll, Drive, Fit}
 use Rattle.track_held.specs.declared.given.NamedPoint.{NamedPoint}
+
+-- it is this value exactly where something holds, and else none
+abbrev pub IsSomeWhere : {A : Type 0} → Type 0 → A → Option A → Type 0
+IsSomeWhere holds value found = MatchOption found (¬ holds) (λ is. holds × (is ≡ value))
 
 -- the shift has these components
 pub record IsGiven (row : NamedPoint) (by : Shift) : Type 0 where

@@ -2,6 +2,8 @@
 use Rattle.std.specs.Prelude.{ℕ, Bool, List, Option}
 use Rattle.mesh_base.specs.declared.surface.Surface.{Ghosts}
 use Rattle.track_engine.specs.declared.engine.Engine.{Engine}
+use Rattle.track_engine.specs.State.{State}
+use Rattle.track_engine.specs.Engines.{state_in}
 use Rattle.track_held.specs.declared.held.Held.{Held}
 use Rattle.log_text.specs.declared.LogLine.{LogLine}
 use Rattle.log_write.specs.Kept as kept
@@ -9,6 +11,10 @@ use Rattle.log_write.specs.Kept as kept
 -- the engine
 abbrev pub engine_in : {S : Type 0} {g : Ghosts S} → Held S g → Engine S
 engine_in held = held.engine
+
+-- the state in which it stands
+abbrev pub held_state : {S : Type 0} {g : Ghosts S} → Held S g → State
+held_state {g = g} held = state_in g.mesh g.kept held.engine
 
 -- the lines that it has told since they were last taken or forgotten
 abbrev pub lines_in : {S : Type 0} {g : Ghosts S} → Held S g → List LogLine

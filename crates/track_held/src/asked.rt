@@ -1,8 +1,8 @@
 //! A shift that is asked of a vertex.
-ghost use Rattle.std.specs.Prelude.{◌≡◌, MatchOption};
+ghost use Rattle.std.specs.Prelude.{MatchOption};
 ghost use Rattle.grid_base.specs.declared.TheConstants.{SHIFT_MAX};
 ghost use Rattle.grid_base.specs.Components.{FitWithin};
-ghost use Rattle.track_held.specs.Asking.{CanBeAsked, CanAllBeAsked, IsGiven, asking, asking_all};
+ghost use Rattle.track_held.specs.Asking.{CanBeAsked, CanAllBeAsked, IsGiven, IsSomeWhere, asking, asking_all};
 
 use crate::given::NamedPoint;
 use grid_base::{ID_MAX, Shift};
@@ -18,8 +18,7 @@ fn shift_of(row: &NamedPoint) -> Option<Shift>
 
 /// The directive that adds a shift to what is asked of a vertex; None where a component or the id is beyond its limit.
 pub fn asking(row: &NamedPoint) -> Option<Directive>
-    ensures { MatchOption result (¬ CanBeAsked row.now)
-        (λ what. CanBeAsked row.now × (what ≡ asking row.now)) }
+    ensures { IsSomeWhere (CanBeAsked row.now) (asking row.now) result }
 {
     let v = row.id;
     let by = shift_of(row)?;
@@ -31,8 +30,7 @@ pub fn asking(row: &NamedPoint) -> Option<Directive>
 
 /// The directive that adds a shift to what is asked of each vertex; None where a component is beyond its limit. The id says nothing.
 pub fn asking_all(row: &NamedPoint) -> Option<Directive>
-    ensures { MatchOption result (¬ CanAllBeAsked row.now)
-        (λ what. CanAllBeAsked row.now × (what ≡ asking_all row.now)) }
+    ensures { IsSomeWhere (CanAllBeAsked row.now) (asking_all row.now) result }
 {
     let by = shift_of(row)?;
     Some(Directive::ShiftAll { by })

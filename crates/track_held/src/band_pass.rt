@@ -38,7 +38,8 @@ fn tell_fit<S: Surface, G: Fn(Point) -> Band>(
 }
 
 impl<S: Surface> Held<S> {
-    ghost use Rattle.track_held.specs.Held.{engine_in, log_in, goes_on};
+    ghost use Rattle.track_held.specs.Held.{goes_on};
+    ghost use Rattle.track_held.specs.Writing.{WritesFit};
 
     /// Makes a pass that splits each edge that is longer than the band and collapses each that is shorter, and tells how
     /// many edits it did and how many were refused: its lines are told, or it stops in them for want of memory, and goes on
@@ -50,9 +51,7 @@ impl<S: Surface> Held<S> {
         ensures stopped { OnErr result (goes_on self.new ≡ false) }
         // There is no other cause to stop.
         ensures why { IfErr result (λ stop. stop ≡ cause.NoMemory) }
-        ensures tells { FitTells (always band) (state_in S.mesh S.kept (engine_in self.old))
-            (state_in S.mesh S.kept (engine_in self.new))
-            (log_in self.old) (log_in self.new) result }
+        ensures tells { WritesFit (always band) self result }
     {
         let sizing = Sizing::new(
             move |_at: Point| -> Band
@@ -78,10 +77,7 @@ impl<S: Surface> Held<S> {
         ensures stopped { OnErr result (goes_on self.new ≡ false) }
         // There is no other cause to stop.
         ensures why { IfErr result (λ stop. stop ≡ cause.NoMemory) }
-        ensures tells { FitTells (by_cells table.now.cells table.now.bands.now)
-            (state_in S.mesh S.kept (engine_in self.old))
-            (state_in S.mesh S.kept (engine_in self.new))
-            (log_in self.old) (log_in self.new) result }
+        ensures tells { WritesFit (by_cells table.now.cells table.now.bands.now) self result }
     {
         let sizing = Sizing::new(
             move |at: Point| -> Band

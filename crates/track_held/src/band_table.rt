@@ -89,12 +89,11 @@ fn cell_along(from: i32, side: u32, many: u32, at: i32) -> u32
 }
 
 impl<'a> BandTable<'a> {
+    ghost use Rattle.track_held.specs.TablesMade.{IsTableOf, IsTableFault};
+
     /// These bands for these cells, or the first thing that is wrong with them.
     pub fn new(cells: Cells, bands: &'a [GivenBand]) -> Result<BandTable<'a>, TableFault>
-        ensures { MatchResult result
-            (λ table. (table_fault cells bands.now ≡ None)
-            × (table.cells ≡ cells) × (table.bands.now ≡ bands.now))
-            (λ why. table_fault cells bands.now ≡ Some why) }
+        ensures { MatchResult result (IsTableOf cells bands.now) (IsTableFault cells bands.now) }
     {
         if cells.side == 0 {
             return Err(TableFault::NoSide);

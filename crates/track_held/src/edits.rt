@@ -55,7 +55,8 @@ fn tell_undo<S: Surface>(
 }
 
 impl<S: Surface> Held<S> {
-    ghost use Rattle.track_held.specs.Held.{engine_in, log_in, goes_on};
+    ghost use Rattle.track_held.specs.Held.{held_state, goes_on};
+    ghost use Rattle.track_held.specs.Writing.{WritesEffect, Appends};
 
     /// Asks edits by ids, and tells how many were done and how many refused, and behind the answers what came of each: its
     /// lines are told, or it stops in them for want of memory, and goes on no more. Asked only while it goes on.
@@ -70,13 +71,11 @@ impl<S: Surface> Held<S> {
         ensures stopped { OnErr result (goes_on self.new ≡ false) }
         // There is no other cause to stop.
         ensures why { IfErr result (λ stop. stop ≡ cause.NoMemory) }
-        ensures tells { let old = state_in S.mesh S.kept (engine_in self.old) in
-            Writes (edits_effect asked.now old) (state_in S.mesh S.kept (engine_in self.new))
-            (log_in self.old) (log_in self.new) (pass_untold result) }
+        ensures tells { WritesEffect (edits_effect asked.now) self (pass_untold result) }
         ensures told { IfOk result (λ count.
-            count ≡ edits_counted asked.now (state_in S.mesh S.kept (engine_in self.old))) }
-        ensures answers { let old = state_in S.mesh S.kept (engine_in self.old) in
-            OnOk result (answers.new ≡ answers.old ++ edited_answers asked.now old) }
+            count ≡ edits_counted asked.now (held_state self.old)) }
+        ensures answers { OnOk result
+            (Appends (edited_answers asked.now (held_state self.old)) answers) }
     {
         match tell_edits(alloc, &mut self.engine, asked, answers, &mut self.log) {
             Ok(count) => {
@@ -98,9 +97,7 @@ impl<S: Surface> Held<S> {
         ensures stopped { OnErr result (goes_on self.new ≡ false) }
         // There is no other cause to stop.
         ensures why { IfErr result (λ stop. stop ≡ cause.NoMemory) }
-        ensures tells { let old = state_in S.mesh S.kept (engine_in self.old) in
-            Writes (undo_effect old.groups old) (state_in S.mesh S.kept (engine_in self.new))
-            (log_in self.old) (log_in self.new) result }
+        ensures tells { WritesEffect (λ s. undo_effect s.groups s) self result }
         // It is never refused.
         ensures taken { IfOk result (λ refused. refused ≡ None) }
     {

@@ -3,9 +3,7 @@ ghost use Rattle.std.specs.Prelude.{◌≡◌, ◌∷◌, true, false, Some, Non
 ghost use Rattle.edit_base.specs.Edges.{edge_of};
 ghost use Rattle.outside_io.specs.declared.stop.Stop.TheVariants as cause;
 ghost use Rattle.track_engine.specs.Effects.{edits_effect, opened};
-ghost use Rattle.track_engine.specs.Engines.{state_in};
 ghost use Rattle.track_engine.specs.Invariant.{HasRoom};
-ghost use Rattle.track_engine.specs.Parts.{Writes};
 ghost use Rattle.track_held.specs.Closings.{closing};
 ghost use Rattle.track_held.specs.declared.group_end.Closing.TheVariants.{Kept};
 ghost use Rattle.track_held.specs.Folding.{untold, are_clean, finish_effect, last_told, group_told, group_effect, fold_effect, fold_told};
@@ -23,7 +21,7 @@ use step_text::Directive;
 
 // What is told of edits in a group, and whether it is to be kept.
 #[derive(Clone, Copy)]
-struct Tried {
+struct TrialOutcome {
     told: ToldAnswer,
     clean: bool,
 }
@@ -40,21 +38,25 @@ fn last_told(none: ToldAnswer, answers: &[Edit]) -> ToldAnswer
 }
 
 impl<S: Surface> Held<S> {
-    ghost use Rattle.track_held.specs.Held.{engine_in, log_in, goes_on};
+    ghost use Rattle.track_held.specs.Held.{engine_in, held_state, goes_on};
+    ghost use Rattle.track_held.specs.Writing.{WritesEffect};
 
     // Asks edits in an open group, and looks whether they leave a crowded edge at a vertex.
-    fn try_edits(&mut self, alloc: Global, asked: &[Asked], v: VertexId) -> Result<Tried, Stop>
+    fn try_edits(
+        &mut self,
+        alloc: Global,
+        asked: &[Asked],
+        v: VertexId,
+    ) -> Result<TrialOutcome, Stop>
         requires goes_on { goes_on self.old ≡ true }
         ensures goes_on { IfOk result (λ _. goes_on self.new ≡ true) }
         ensures stopped { OnErr result (goes_on self.new ≡ false) }
         ensures why { IfErr result (λ stop. stop ≡ cause.NoMemory) }
-        ensures tells { let old = state_in S.mesh S.kept (engine_in self.old) in
-            Writes (edits_effect asked.now old) (state_in S.mesh S.kept (engine_in self.new))
-            (log_in self.old) (log_in self.new) (untold result) }
+        ensures tells { WritesEffect (edits_effect asked.now) self (untold result) }
         ensures told { IfOk result (λ tried.
-            tried.told ≡ group_told asked.now v (state_in S.mesh S.kept (engine_in self.old))) }
+            tried.told ≡ group_told asked.now v (held_state self.old)) }
         ensures clean { IfOk result (λ tried.
-            tried.clean ≡ are_clean asked.now v (state_in S.mesh S.kept (engine_in self.old))) }
+            tried.clean ≡ are_clean asked.now v (held_state self.old)) }
     {
         let mut answers = Answers::new(alloc);
         let count = match self.edits(alloc, asked, &mut answers) {
@@ -63,11 +65,11 @@ impl<S: Surface> Held<S> {
         };
         let told = last_told(reason_at(0, 0, 0, 0), answers.as_slice());
         if count.refused > 0 {
-            return Ok(Tried { told, clean: false });
+            return Ok(TrialOutcome { told, clean: false });
         }
         match first_crowded(alloc, &self.engine.mesh, v) {
-            Ok(None) => Ok(Tried { told, clean: true }),
-            Ok(Some(w)) => Ok(Tried {
+            Ok(None) => Ok(TrialOutcome { told, clean: true }),
+            Ok(Some(w)) => Ok(TrialOutcome {
                 told: reason_at(2, v.0, w.0, 0),
                 clean: false,
             }),
@@ -82,15 +84,11 @@ impl<S: Surface> Held<S> {
     fn finish(&mut self, alloc: Global, keep: bool) -> Result<(), Stop>
         requires goes_on { goes_on self.old ≡ true }
         requires room { HasRoom 1 (engine_in self.old).run }
-        requires kept { let old = state_in S.mesh S.kept (engine_in self.old) in
-            keep ≡ true → closing old.groups ≡ Kept }
+        requires kept { keep ≡ true → closing (held_state self.old).groups ≡ Kept }
         ensures goes_on { IfOk result (λ _. goes_on self.new ≡ true) }
         ensures stopped { OnErr result (goes_on self.new ≡ false) }
         ensures why { IfErr result (λ stop. stop ≡ cause.NoMemory) }
-        ensures tells { let old = state_in S.mesh S.kept (engine_in self.old) in
-            Writes (finish_effect keep old.groups old)
-            (state_in S.mesh S.kept (engine_in self.new))
-            (log_in self.old) (log_in self.new) (untold result) }
+        ensures tells { WritesEffect (λ s. finish_effect keep s.groups s) self (untold result) }
     {
         if keep {
             match self.take(alloc, &Directive::Close) {
@@ -117,11 +115,9 @@ impl<S: Surface> Held<S> {
         ensures goes_on { IfOk result (λ _. goes_on self.new ≡ true) }
         ensures stopped { OnErr result (goes_on self.new ≡ false) }
         ensures why { IfErr result (λ stop. stop ≡ cause.NoMemory) }
-        ensures tells { let old = state_in S.mesh S.kept (engine_in self.old) in
-            Writes (group_effect asked.now v old) (state_in S.mesh S.kept (engine_in self.new))
-            (log_in self.old) (log_in self.new) (untold result) }
-        ensures told { IfOk result (λ told. let old = state_in S.mesh S.kept (engine_in self.old) in
-            told ≡ group_told asked.now v (opened old)) }
+        ensures tells { WritesEffect (group_effect asked.now v) self (untold result) }
+        ensures told { IfOk result (λ told.
+            told ≡ group_told asked.now v (opened (held_state self.old))) }
     {
         if let Err(stop) = self.take(alloc, &Directive::Group) {
             return Err(stop);
@@ -143,11 +139,9 @@ impl<S: Surface> Held<S> {
         ensures goes_on { IfOk result (λ _. goes_on self.new ≡ true) }
         ensures stopped { OnErr result (goes_on self.new ≡ false) }
         ensures why { IfErr result (λ stop. stop ≡ cause.NoMemory) }
-        ensures tells { let old = state_in S.mesh S.kept (engine_in self.old) in
-            Writes (group_effect (fold_edits old.mesh e) (fold_vertex e) old)
-            (state_in S.mesh S.kept (engine_in self.new))
-            (log_in self.old) (log_in self.new) (untold result) }
-        ensures told { IfOk result (λ told. let old = state_in S.mesh S.kept (engine_in self.old) in
+        ensures tells { WritesEffect
+            (λ s. group_effect (fold_edits s.mesh e) (fold_vertex e) s) self (untold result) }
+        ensures told { IfOk result (λ told. let old = held_state self.old in
             told ≡ group_told (fold_edits old.mesh e) (fold_vertex e) (opened old)) }
     {
         let v = fold_vertex(&e);
@@ -177,11 +171,8 @@ impl<S: Surface> Held<S> {
         ensures stopped { OnErr result (goes_on self.new ≡ false) }
         // There is no other cause to stop.
         ensures why { IfErr result (λ stop. stop ≡ cause.NoMemory) }
-        ensures tells { let old = state_in S.mesh S.kept (engine_in self.old) in
-            Writes (fold_effect a b old) (state_in S.mesh S.kept (engine_in self.new))
-            (log_in self.old) (log_in self.new) (untold result) }
-        ensures told { IfOk result (λ told.
-            told ≡ fold_told a b (state_in S.mesh S.kept (engine_in self.old))) }
+        ensures tells { WritesEffect (fold_effect a b) self (untold result) }
+        ensures told { IfOk result (λ told. told ≡ fold_told a b (held_state self.old)) }
     {
         match fold_at(&self.engine.mesh, a, b) {
             Ok(e) => self.draw_together(alloc, e),

@@ -14,6 +14,7 @@ ghost use Rattle.track_engine.specs.Engines.{state_in};
 ghost use Rattle.track_engine.specs.Invariant.{IsRunInvariant, HasRoom};
 ghost use Rattle.track_engine.specs.Ready.{IsReady};
 ghost use Rattle.track_held.specs.Asking.{AsksNothing};
+ghost use Rattle.track_held.specs.Setting.{with_settings};
 ghost use Rattle.track_held.specs.Closings.{closing};
 ghost use Rattle.log_text.specs.Lines.{text_of_lines};
 ghost use Rattle.log_write.specs.Kept.{told_in, lines_where};
@@ -88,7 +89,7 @@ pub struct Held<S: Surface> {
 }
 
 impl<S: Surface + Drop> Held<S> {
-    ghost use Rattle.track_held.specs.Held.{engine_in, keeps_lines, lines_in, goes_on};
+    ghost use Rattle.track_held.specs.Held.{held_state, keeps_lines, lines_in, goes_on};
 
     /// An engine of a closed surface that does not meet itself, with an empty log.
     pub fn new(alloc: Global, mesh: S) -> Result<Held<S>, NoMemory>
@@ -96,8 +97,7 @@ impl<S: Surface + Drop> Held<S> {
         ensures goes_on { IfOk result (λ held. goes_on held ≡ true) }
         ensures keeps { IfOk result (λ held. keeps_lines held ≡ true) }
         ensures lines { IfOk result (λ held. lines_in held ≡ []) }
-        ensures state { IfOk result (λ held.
-            state_in S.mesh S.kept (engine_in held) ≡ unsaved (S.mesh mesh)) }
+        ensures state { IfOk result (λ held. held_state held ≡ unsaved (S.mesh mesh)) }
     {
         let engine = Engine::new(alloc, mesh)?;
         Ok(Held {
@@ -109,21 +109,21 @@ impl<S: Surface + Drop> Held<S> {
 }
 
 impl<S: Surface> Held<S> {
-    ghost use Rattle.track_held.specs.Held.{engine_in, keeps_lines, lines_in, log_in, text_in, goes_on};
+    ghost use Rattle.track_held.specs.Held.{engine_in, held_state, keeps_lines, lines_in, text_in, goes_on};
+    ghost use Rattle.track_held.specs.Writing.{WritesEffect, RefusalLeavesState};
 
     /// Whether no directive has stopped.
     pub fn goes_on(&self) -> bool
         ensures is { result ≡ goes_on self.now }
         // While that holds, the mesh is sound, closed and clear, and so is that of each open group.
-        ensures whole { goes_on self.now ≡ true →
-            IsRunInvariant (state_in S.mesh S.kept (engine_in self.now)) }
+        ensures whole { goes_on self.now ≡ true → IsRunInvariant (held_state self.now) }
     {
         self.goes_on
     }
 
     /// How many steps were taken.
     pub fn steps(&self) -> u32
-        ensures { result ≡ (state_in S.mesh S.kept (engine_in self.now)).steps }
+        ensures { result ≡ (held_state self.now).steps }
     {
         self.engine.run.steps
     }
@@ -141,15 +141,14 @@ impl<S: Surface> Held<S> {
         ensures lines { lines_in self.new ≡ lines_in self.old }
         ensures keeps { keeps_lines self.new ≡ keeps_lines self.old }
         ensures goes_on { goes_on self.new ≡ goes_on self.old }
-        ensures state { let old = state_in S.mesh S.kept (engine_in self.old) in
-            state_in S.mesh S.kept (engine_in self.new) ≡ record old { set = set } }
+        ensures state { held_state self.new ≡ with_settings set (held_state self.old) }
     {
         self.engine.run.set = set;
     }
 
     /// What becomes of the group that was opened last, where it is closed now.
     pub fn closing(&self) -> Closing
-        ensures { result ≡ closing (state_in S.mesh S.kept (engine_in self.now)).groups }
+        ensures { result ≡ closing (held_state self.now).groups }
     {
         closing_by(self.engine.run.groups.has_failed())
     }
@@ -218,13 +217,9 @@ impl<S: Surface> Held<S> {
         ensures stopped { OnErr result (goes_on self.new ≡ false) }
         // There is no other cause to stop.
         ensures why { IfErr result (λ stop. stop ≡ cause.NoMemory) }
-        ensures tells { let old = state_in S.mesh S.kept (engine_in self.old) in
-            Writes (effect_of Nothing what.now old) (state_in S.mesh S.kept (engine_in self.new))
-            (log_in self.old) (log_in self.new) result }
+        ensures tells { WritesEffect (effect_of Nothing what.now) self result }
         // A refusal leaves the state as it was.
-        ensures left { IfOk result (λ refused. IsSome refused →
-            state_in S.mesh S.kept (engine_in self.new)
-            ≡ state_in S.mesh S.kept (engine_in self.old)) }
+        ensures left { RefusalLeavesState self result }
     {
         let fields = no_fields(no_shift);
         let sizing = Sizing::new(any_length);

@@ -4,11 +4,9 @@ ghost use Rattle.grid_base.specs.declared.TheConstants.{VERTICES_MAX, FACES_MAX}
 ghost use Rattle.mesh_base.specs.declared.limits.Scale.TheVariants.{Large};
 ghost use Rattle.mesh_base.specs.Given.{mesh_under};
 ghost use Rattle.mesh_base.specs.Valid.{IsValidSurface};
-ghost use Rattle.mesh_journal.specs.Journal.{mesh_in, kept_in};
-ghost use Rattle.track_engine.specs.Engines.{state_in};
 ghost use Rattle.track_engine.specs.State.{unsaved};
 ghost use Rattle.track_held.specs.Given.{point_in, face_in, given_mesh, is_outside, box_fault, too_many_faces, lists_fault, make_fault, IsRefusal, IsFaulty};
-ghost use Rattle.track_held.specs.Held.{engine_in, keeps_lines, lines_in, goes_on};
+ghost use Rattle.track_held.specs.Held.{held_state, keeps_lines, lines_in, goes_on};
 ghost use Rattle.track_held.specs.declared.new_tracker.MakeRefusal.TheVariants as refusals;
 
 use crate::given::{GivenFace, GivenPoint};
@@ -114,8 +112,8 @@ fn faces_of(alloc: Global, given: &[GivenFace]) -> Result<Triangles, NoMemory>
 
 // A tracker of the mesh that lists make, or their first fault of shape, or the first pair that meets.
 fn track_lists(alloc: Global, lists: &MeshLists) -> Result<Held<JournalMesh>, MakeRefusal>
-    ensures state { IfOk result (λ held. state_in mesh_in kept_in (engine_in held)
-        ≡ unsaved (mesh_under Large lists.now.points lists.now.faces)) }
+    ensures state { IfOk result (λ held.
+        held_state held ≡ unsaved (mesh_under Large lists.now.points lists.now.faces)) }
     ensures goes_on { IfOk result (λ held. goes_on held ≡ true) }
     ensures keeps { IfOk result (λ held. keeps_lines held ≡ true) }
     ensures lines { IfOk result (λ held. lines_in held ≡ []) }
@@ -145,8 +143,8 @@ pub fn track(
     points: &[GivenPoint],
     faces: &[GivenFace],
 ) -> Result<Held<JournalMesh>, MakeRefusal>
-    ensures state { IfOk result (λ held. state_in mesh_in kept_in (engine_in held)
-        ≡ unsaved (given_mesh points.now faces.now)) }
+    ensures state { IfOk result (λ held.
+        held_state held ≡ unsaved (given_mesh points.now faces.now)) }
     ensures goes_on { IfOk result (λ held. goes_on held ≡ true) }
     ensures keeps { IfOk result (λ held. keeps_lines held ≡ true) }
     ensures lines { IfOk result (λ held. lines_in held ≡ []) }

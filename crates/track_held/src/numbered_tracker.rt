@@ -3,13 +3,12 @@ ghost use Rattle.std.specs.Prelude.{◌≡◌, ◌≤◌, ◌<◌, true, false, 
 ghost use Rattle.grid_base.specs.declared.TheConstants.{VERTICES_MAX};
 ghost use Rattle.mesh_base.specs.declared.limits.Scale.TheVariants.{Large};
 ghost use Rattle.mesh_base.specs.Valid.{IsValidSurface};
-ghost use Rattle.mesh_journal.specs.Journal.{mesh_in, kept_in};
 ghost use Rattle.mesh_rows.specs.Rows.{mesh_of_rows};
-ghost use Rattle.track_engine.specs.Engines.{state_in};
 ghost use Rattle.track_engine.specs.State.{unsaved};
 ghost use Rattle.track_held.specs.Given.{is_outside};
-ghost use Rattle.track_held.specs.Numbered.{numbered_point, vertex_in, face_row_in, given_rows, outside_fault, rows_or_meet_fault, numbered_fault, IsRefusal, IsFaulty};
-ghost use Rattle.track_held.specs.Held.{engine_in, keeps_lines, lines_in, goes_on};
+ghost use Rattle.track_held.specs.Numbered.{numbered_point, vertex_in, face_row_in, outside_fault, rows_or_meet_fault, IsRefusal, IsFaulty};
+ghost use Rattle.track_held.specs.NumberedMade.{HoldsRows, AreValidRows, AreFaultless, IsRefusalOf};
+ghost use Rattle.track_held.specs.Held.{held_state, keeps_lines, lines_in, goes_on};
 ghost use Rattle.track_held.specs.declared.numbered_tracker.NumberedRefusal.TheVariants as refusals;
 
 use crate::given::{GivenPoint, NamedFace, NamedPoint};
@@ -125,8 +124,8 @@ fn solids_of(alloc: Global, given: &[u32]) -> Result<Ids, NoMemory>
 
 // A tracker of the mesh that rows make, or their first fault, or the first pair that meets.
 fn track_rows(alloc: Global, rows: &MeshRows) -> Result<Held<JournalMesh>, NumberedRefusal>
-    ensures state { IfOk result (λ held. state_in mesh_in kept_in (engine_in held)
-        ≡ unsaved (mesh_of_rows Large rows.now)) }
+    ensures state { IfOk result (λ held.
+        held_state held ≡ unsaved (mesh_of_rows Large rows.now)) }
     ensures goes_on { IfOk result (λ held. goes_on held ≡ true) }
     ensures keeps { IfOk result (λ held. keeps_lines held ≡ true) }
     ensures lines { IfOk result (λ held. lines_in held ≡ []) }
@@ -158,21 +157,20 @@ pub fn track_numbered(
     next_vertex: u32,
     next_face: u32,
 ) -> Result<Held<JournalMesh>, NumberedRefusal>
-    ensures state { let rows = given_rows points.now faces.now solids.now next_vertex next_face in
-        IfOk result (λ held. state_in mesh_in kept_in (engine_in held)
-        ≡ unsaved (mesh_of_rows Large rows)) }
+    ensures state { IfOk result
+        (HoldsRows points.now faces.now solids.now next_vertex next_face) }
     ensures goes_on { IfOk result (λ held. goes_on held ≡ true) }
     ensures keeps { IfOk result (λ held. keeps_lines held ≡ true) }
     ensures lines { IfOk result (λ held. lines_in held ≡ []) }
     // Made: they have no fault, and their mesh is sound, closed and clear.
-    ensures valid { let rows = given_rows points.now faces.now solids.now next_vertex next_face in
-        IsOk result → IsValidSurface (mesh_of_rows Large rows) }
-    ensures none { let rows = given_rows points.now faces.now solids.now next_vertex next_face in
-        IsOk result → numbered_fault points.now rows ≡ None }
+    ensures valid { IsOk result →
+        AreValidRows points.now faces.now solids.now next_vertex next_face }
+    ensures none { IsOk result →
+        AreFaultless points.now faces.now solids.now next_vertex next_face }
 
     // Refused for a fault: the first. Too many vertices are refused without memory.
-    ensures first { let rows = given_rows points.now faces.now solids.now next_vertex next_face in
-        IfErr result (IsRefusal (numbered_fault points.now rows)) }
+    ensures first { IfErr result
+        (IsRefusalOf points.now faces.now solids.now next_vertex next_face) }
     ensures crowded { VERTICES_MAX < length points.now → IsFaulty result }
 {
     if points.len() > VERTICES_MAX as usize {

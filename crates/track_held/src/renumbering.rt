@@ -111,27 +111,26 @@ fn dense_engine<S: Surface>(
 }
 
 impl<S: Surface> Held<S> {
-    ghost use Rattle.track_held.specs.Held.{engine_in};
+    ghost use Rattle.track_held.specs.Held.{held_state};
 
     /// Whether a group is open.
     pub fn has_open_group(&self) -> bool
-        ensures { result ≡ is_open (state_in S.mesh S.kept (engine_in self.now)).groups }
+        ensures { result ≡ is_open (held_state self.now).groups }
     {
         self.engine.run.groups.is_open()
     }
 }
 
 impl Held<JournalMesh> {
-    ghost use Rattle.track_held.specs.Held.{engine_in, keeps_lines, lines_in, goes_on};
+    ghost use Rattle.track_held.specs.Held.{held_state, keeps_lines, lines_in, goes_on};
 
     /// Numbers vertices and faces anew, from 1 by rising id, as they are in a file of the mesh that is read again; solid vertices
     /// stay solid, and the same is asked of each. The lines that were told are forgotten: those that are told from here on are of
     /// the mesh as it is numbered then. Where memory is wanting nothing is changed. Asked only while it goes on and no group is open.
     pub fn renumber(&mut self, alloc: Global) -> Result<(), NoMemory>
         requires goes_on { goes_on self.old ≡ true }
-        requires groups { is_open (state_in mesh_in kept_in (engine_in self.old)).groups ≡ false }
-        ensures state { OnOk result (state_in mesh_in kept_in (engine_in self.new)
-            ≡ dense_state (state_in mesh_in kept_in (engine_in self.old))) }
+        requires groups { is_open (held_state self.old).groups ≡ false }
+        ensures state { OnOk result (held_state self.new ≡ dense_state (held_state self.old)) }
         ensures lines { OnOk result (lines_in self.new ≡ []) }
         ensures keeps { keeps_lines self.new ≡ keeps_lines self.old }
         ensures goes_on { goes_on self.new ≡ true }

@@ -60,7 +60,8 @@ fn tell_pass<S: Surface>(
 }
 
 impl<S: Surface> Held<S> {
-    ghost use Rattle.track_held.specs.Held.{engine_in, log_in, goes_on};
+    ghost use Rattle.track_held.specs.Held.{engine_in, held_state, goes_on};
+    ghost use Rattle.track_held.specs.Writing.{WritesEffect, RefusalLeavesState};
 
     /// Takes a step, and tells how: its lines are told, or it is refused and nothing changes, or it stops in its lines for
     /// want of memory, and goes on no more. Asked only while it goes on and has room (`has_room`).
@@ -71,15 +72,11 @@ impl<S: Surface> Held<S> {
         ensures stopped { OnErr result (goes_on self.new ≡ false) }
         // There is no other cause to stop.
         ensures why { IfErr result (λ stop. stop ≡ cause.NoMemory) }
-        ensures tells { let old = state_in S.mesh S.kept (engine_in self.old) in
-            Writes (effect_of Nothing Step old) (state_in S.mesh S.kept (engine_in self.new))
-            (log_in self.old) (log_in self.new) (step_untold result) }
+        ensures tells { WritesEffect (effect_of Nothing Step) self (step_untold result) }
         ensures told { IfOk result (λ taken. IfOk taken
-            (λ told. told ≡ step_told (state_in S.mesh S.kept (engine_in self.old)))) }
+            (λ told. told ≡ step_told (held_state self.old))) }
         // A refusal leaves the state as it was.
-        ensures left { IfOk (step_untold result) (λ refused. IsSome refused →
-            state_in S.mesh S.kept (engine_in self.new)
-            ≡ state_in S.mesh S.kept (engine_in self.old)) }
+        ensures left { RefusalLeavesState self (step_untold result) }
     {
         match tell_step(alloc, &mut self.engine, &mut self.log) {
             Ok(Ok(told)) => {
@@ -102,11 +99,8 @@ impl<S: Surface> Held<S> {
         ensures stopped { OnErr result (goes_on self.new ≡ false) }
         // There is no other cause to stop.
         ensures why { IfErr result (λ stop. stop ≡ cause.NoMemory) }
-        ensures tells { let old = state_in S.mesh S.kept (engine_in self.old) in
-            Writes (effect_of Nothing (Pass kind) old) (state_in S.mesh S.kept (engine_in self.new))
-            (log_in self.old) (log_in self.new) (pass_untold result) }
-        ensures told { IfOk result (λ count.
-            count ≡ pass_told kind (state_in S.mesh S.kept (engine_in self.old))) }
+        ensures tells { WritesEffect (effect_of Nothing (Pass kind)) self (pass_untold result) }
+        ensures told { IfOk result (λ count. count ≡ pass_told kind (held_state self.old)) }
     {
         match tell_pass(alloc, &mut self.engine, kind, &mut self.log) {
             Ok(count) => {

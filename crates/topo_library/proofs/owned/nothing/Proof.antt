@@ -19,7 +19,7 @@ use denote.Struct.Values.{intos}
 use denote.Triple.Walked.{Stays, walk_of, says, stay_dropped, Goes-dropped, ends_at}
 use Rattle.std.specs.contracts.alloc.Global.{the_row as Glob}
 use Rattle.std.proofs.alloc.Global.TheLaws as glob-laws
-use Rattle.topo_library.specs.contracts.owned.Owned as owned
+use Rattle.topo_library.specs.contracts.owned.OwnedTracker as owned
 use Rattle.topo_library.specs.contracts.owned.nothing as f
 use Rattle.topo_library.proofs.owned.nothing.Statement.{statement}
 use Rattle.topo_library.proofs.owned.nothing.Code as code

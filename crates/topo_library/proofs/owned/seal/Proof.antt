@@ -21,9 +21,9 @@ use Rattle.std.specs.contracts.impls.GlobalAllocator.TheImpl.{ghosts}
 use Rattle.std.proofs.alloc.Global.TheLaws as glob-laws
 use Rattle.topo_library.specs.contracts.tracker.Tracker.{the_row as Tracker}
 use Rattle.topo_library.proofs.tracker.Tracker.TheLaws as tracker-laws
-use Rattle.topo_library.specs.contracts.loose.Loose as loose
-use Rattle.topo_library.proofs.loose.Loose.TheLaws as loose-laws
-use Rattle.topo_library.specs.contracts.owned.Owned as owned
+use Rattle.topo_library.specs.contracts.loose.LooseBox as loose
+use Rattle.topo_library.proofs.loose.LooseBox.TheLaws as loose-laws
+use Rattle.topo_library.specs.contracts.owned.OwnedTracker as owned
 use Rattle.topo_library.specs.contracts.owned.seal as f
 use Rattle.topo_library.proofs.owned.seal.Statement.{statement}
 use Rattle.topo_library.proofs.owned.seal.Code as code

@@ -20,10 +20,10 @@ use denote.Triple.Walked.{Stays, walk_of, says, stay_dropped, ends_at}
 use Rattle.std.specs.contracts.alloc.Global.{the_row as Glob}
 use Rattle.std.specs.contracts.impls.GlobalAllocator.TheImpl.{ghosts}
 use Rattle.topo_library.specs.contracts.tracker.Tracker.{the_row as Tracker}
-use Rattle.topo_library.specs.contracts.loose.Loose as loose
-use Rattle.topo_library.proofs.owned.Owned.TheLaws as owned-laws
+use Rattle.topo_library.specs.contracts.loose.LooseBox as loose
+use Rattle.topo_library.proofs.owned.OwnedTracker.TheLaws as owned-laws
 use Rattle.topo_library.specs.Owned.{owned_owns}
-use Rattle.topo_library.specs.contracts.owned.Owned as owned
+use Rattle.topo_library.specs.contracts.owned.OwnedTracker as owned
 use Rattle.topo_library.specs.contracts.owned.unseal as f
 use Rattle.topo_library.proofs.owned.unseal.Statement.{statement}
 use Rattle.topo_library.proofs.owned.unseal.Code as code

@@ -37,14 +37,14 @@ use Rattle.std.proofs.alloc.Calls.{token, handle_tells, Goes-blank}
 use Rattle.std.specs.Box.Ownership.{box_owns}
 use Rattle.std.proofs.BoxSteps.Form.{Bx, D, τ, R, P, B, word, box_typed}
 use Rattle.std.proofs.BoxSteps.Steps.{box_out, box_in}
-use Rattle.topo_library.specs.contracts.loose.Loose as parts
+use Rattle.topo_library.specs.contracts.loose.LooseBox as parts
 use Rattle.std.specs.contracts.boxed.Box.into_raw_with_allocator as Ra
 use Rattle.std.proofs.boxed.Box.into_raw_with_allocator.Symbol as raw_sym
 use Rattle.std.proofs.boxed.Box.into_raw_with_allocator.Met as raw_met
-use Rattle.topo_library.specs.contracts.loose.Loose.of as F
-use Rattle.topo_library.specs.contracts.loose.Loose.of.Key.{name as #self}
-use Rattle.topo_library.proofs.loose.Loose.of.Statement as stated
-use Rattle.topo_library.proofs.loose.Loose.of.Code as code
+use Rattle.topo_library.specs.contracts.loose.LooseBox.of as F
+use Rattle.topo_library.specs.contracts.loose.LooseBox.of.Key.{name as #self}
+use Rattle.topo_library.proofs.loose.LooseBox.of.Statement as stated
+use Rattle.topo_library.proofs.loose.LooseBox.of.Code as code
 
 module _ (E : Bx) (dx : Dict) where
   abbrev args : Args

@@ -35,14 +35,14 @@ use Rattle.std.proofs.alloc.Calls.{token, Goes-blank}
 use Rattle.std.specs.Box.Ownership.{box_owns}
 use Rattle.std.proofs.BoxSteps.Form.{Bx, D, R, P, B, args, box_ty, word, box_typed}
 use Rattle.std.proofs.BoxSteps.Steps.{box_out, box_in}
-use Rattle.topo_library.specs.contracts.loose.Loose as parts
+use Rattle.topo_library.specs.contracts.loose.LooseBox as parts
 use Rattle.std.specs.contracts.boxed.Box.from_raw as Fr
 use Rattle.std.proofs.boxed.Box.from_raw.Symbol as raw_sym
 use Rattle.std.proofs.boxed.Box.from_raw.Met as raw_met
-use Rattle.topo_library.specs.contracts.loose.Loose.into_box as F
-use Rattle.topo_library.specs.contracts.loose.Loose.into_box.Key.{name as #self}
-use Rattle.topo_library.proofs.loose.Loose.into_box.Statement as stated
-use Rattle.topo_library.proofs.loose.Loose.into_box.Code as code
+use Rattle.topo_library.specs.contracts.loose.LooseBox.into_box as F
+use Rattle.topo_library.specs.contracts.loose.LooseBox.into_box.Key.{name as #self}
+use Rattle.topo_library.proofs.loose.LooseBox.into_box.Statement as stated
+use Rattle.topo_library.proofs.loose.LooseBox.into_box.Code as code
 
 abbrev rest : Body
 rest = seq (assign (place 0 []) (rv_opd (copy (place 4 [])))) return
