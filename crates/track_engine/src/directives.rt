@@ -26,7 +26,7 @@ use crate::asked_shifts::AskedShifts;
 use crate::engine::Engine;
 use crate::field_shifts::{field_of, is_fit};
 use crate::placement::{first_outside, place_all};
-use crate::shift_sums::{all_summed, asked_in, only_given, sum_one};
+use crate::shift_sums::{all_summed, asked_in, keep_asked, sum_one};
 use crate::step_lines::{say_hits, say_way};
 use crate::target::Target;
 use crate::terms::RunTerms;
@@ -178,7 +178,7 @@ impl<S: Surface> Engine<S> {
         ensures begins { BeginsWith (S.kept self.new.mesh) (S.kept self.old.mesh) }
         ensures nothing_stored { LeavesDesk O.around outside (pass_untold result) }
     {
-        only_given(alloc, &self.mesh, &mut self.run.asked)?;
+        keep_asked(alloc, &self.mesh, &mut self.run.asked)?;
         let terms = PassTerms {
             kind,
             depth: self.run.set.depth,

@@ -9,7 +9,7 @@ ghost use Rattle.track_engine.specs.Ready.{IsReady};
 ghost use Rattle.track_engine.specs.Told.{pass_untold};
 
 use crate::engine::Engine;
-use crate::shift_sums::only_given;
+use crate::shift_sums::keep_asked;
 use edit_base::Asked;
 use log_write::Listener;
 use mesh_base::{Surface, UseWhy};
@@ -40,7 +40,7 @@ impl<S: Surface> Engine<S> {
         ensures begins { BeginsWith (S.kept self.new.mesh) (S.kept self.old.mesh) }
         ensures nothing_stored { LeavesDesk O.around outside (pass_untold result) }
     {
-        only_given(alloc, &self.mesh, &mut self.run.asked)?;
+        keep_asked(alloc, &self.mesh, &mut self.run.asked)?;
         let terms = EditTerms {
             depth: self.run.set.depth,
             grouped: self.run.groups.is_open(),

@@ -10,7 +10,7 @@ ghost use Rattle.track_engine.specs.Ready.{IsReady};
 ghost use Rattle.track_engine.specs.Told.{pass_untold};
 
 use crate::engine::Engine;
-use crate::shift_sums::only_given;
+use crate::shift_sums::keep_asked;
 use crate::told::pass_untold;
 use grid_base::Point;
 use log_write::Listener;
@@ -39,7 +39,7 @@ impl<S: Surface> Engine<S> {
         ensures begins { BeginsWith (S.kept self.new.mesh) (S.kept self.old.mesh) }
         ensures nothing_stored { LeavesDesk O.around outside (pass_untold result) }
     {
-        only_given(alloc, &self.mesh, &mut self.run.asked)?;
+        keep_asked(alloc, &self.mesh, &mut self.run.asked)?;
         let turns = Turns {
             by: sizing,
             depth: self.run.set.depth,
