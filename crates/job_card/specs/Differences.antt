@@ -1,5 +1,5 @@
 -- How a job differs from its card.
-use Rattle.std.specs.Prelude.{◌≡◌, ◌≢◌, ℕ, List, length}
+use Rattle.std.specs.Prelude.{◌≡◌, ◌≢◌, ℕ, List, length, Option, MatchOption}
 use Rattle.sha2.specs.Sha256.{sha256}
 use Rattle.job_card.specs.declared.card.Card.{Card}
 use Rattle.job_card.specs.declared.card.FileMark.{FileMark}
@@ -21,3 +21,8 @@ abbrev pub IsFirst : Part → Card → Facts → Type 0
 IsFirst Decimals c f = c.decimals ≢ f.decimals
 IsFirst Mesh c f = (c.decimals ≡ f.decimals) × (c.mesh ≢ f.mesh)
 IsFirst Log c f = (c.decimals ≡ f.decimals) × (c.mesh ≡ f.mesh) × (c.log ≢ f.log)
+
+-- the first of decimals, mesh and log that is another than the card's; none, exactly where all are
+-- the card's
+abbrev pub IsFirstDifference : Card → Facts → Option Part → Type 0
+IsFirstDifference c f part = MatchOption part (IsAlike c f) (λ first. IsFirst first c f)

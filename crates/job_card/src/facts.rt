@@ -1,4 +1,4 @@
-ghost use Rattle.std.specs.Prelude.{◌≡◌, ◌↔◌, true, MatchOption};
+ghost use Rattle.std.specs.Prelude.{◌≡◌, ◌↔◌, true};
 ghost use Rattle.job_card.specs.Differences as spec;
 
 use crate::card::{Card, FileMark};
@@ -28,8 +28,7 @@ fn is_same(a: &FileMark, b: &FileMark) -> bool
 
 /// The first of decimals, mesh and log that is another than the card's; None exactly where all are the card's.
 pub fn difference(card: &Card, facts: &Facts) -> Option<Part>
-    ensures { MatchOption result (spec.IsAlike card.now facts.now)
-        (λ first. spec.IsFirst first card.now facts.now) }
+    ensures { spec.IsFirstDifference card.now facts.now result }
 {
     if card.decimals != facts.decimals {
         return Some(Part::Decimals);

@@ -1,7 +1,7 @@
 //! One line of a log, as text.
 ghost use Rattle.std.specs.Prelude.{◌≡◌, [], ◌∷◌, OnErr, IsErrOf};
 ghost use Rattle.log_text.specs.Lines.{text_of_line};
-ghost use Rattle.outside_io.specs.Sink.{AppendsPart};
+ghost use Rattle.outside_io.specs.Outside.{WritesPart};
 ghost use Rattle.log_write.specs.Kinds.{kind_of};
 ghost use Rattle.log_write.specs.Written.{Says};
 
@@ -19,8 +19,7 @@ const LINE_ROOM: usize = 64;
 pub fn write_line<O: Outside>(alloc: Global, outside: &mut O, line: &LogLine) -> Result<(), Stop>
     ensures says { Says (line.now ∷ []) (O.around outside.old) (O.around outside.new) result }
     // The line is not whole after an error.
-    ensures part { OnErr result (AppendsPart (O.around outside.old).world.holds.written
-        (O.around outside.new).world.holds.written (text_of_line line.now)) }
+    ensures part { OnErr result (WritesPart O.around outside (text_of_line line.now)) }
     ensures none { IsErrOf result Stop.NoMemory → outside.new ≡ outside.old }
 {
     let Ok(mut text) = Vec::with_capacity(alloc, LINE_ROOM) else {

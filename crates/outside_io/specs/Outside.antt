@@ -1,5 +1,6 @@
 -- What the two sides of a run do as one.
 use Rattle.std.specs.Prelude.{◌≡◌, ◌≤◌, ◌<◌, ℕ, List, length, Option, Result, IfOk, OnOk, OnErr, IfErr, IsErrOf}
+use Rattle.in_out.specs.InOut.{InOut, value_before, value_after}
 use Rattle.outside_io.specs.declared.stop.Stop.{Stop}
 use Rattle.outside_io.specs.declared.stop.Stop.TheVariants.{NoMemory, DeskFault, SinkFault}
 use Rattle.outside_io.specs.declared.outside.Fetched.{Fetched}
@@ -80,3 +81,31 @@ holds_of around = around.world.holds
 -- what the sink was given
 abbrev pub written_of : Around → Option (List ℕ)
 written_of around = around.world.holds.written
+
+-- ---- of a call that is handed what is outside, by how a contract sees it
+
+-- the world before the call and the one after it stand so to each other
+abbrev pub InWorld : {O : Type 0} → (O → Around) → InOut O → (World → World → Type 0) → Type 0
+InWorld around outside relation =
+    relation (around (value_before outside)).world (around (value_after outside)).world
+
+-- the files that the desk holds before the call
+abbrev pub files_before : {O : Type 0} → (O → Around) → InOut O → Option Files
+files_before around outside = (around (value_before outside)).world.holds.files
+
+-- the call wrote these bytes
+abbrev pub WritesAll : {O : Type 0} → (O → Around) → InOut O → List ℕ → Type 0
+WritesAll around outside bytes =
+    written_of (around (value_after outside))
+    ≡ appended (written_of (around (value_before outside))) bytes
+
+-- the call wrote the first of these bytes, perhaps none, and not all of them
+abbrev pub WritesPart : {O : Type 0} → (O → Around) → InOut O → List ℕ → Type 0
+WritesPart around outside bytes =
+    AppendsPart (written_of (around (value_before outside)))
+    (written_of (around (value_after outside))) bytes
+
+-- whatever the call wrote, it left the desk alone
+abbrev pub LeavesDesk : {O T : Type 0} → (O → Around) → InOut O → Result T Stop → Type 0
+LeavesDesk around outside result =
+    StoresNothing (around (value_before outside)) (around (value_after outside)) result

@@ -17,4 +17,5 @@ pub mod Shifting
 pub mod Parts
 pub mod Again
 pub mod Told
+pub mod Calls
 pub mod Asking

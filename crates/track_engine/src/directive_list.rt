@@ -3,13 +3,11 @@ ghost use Rattle.grid_base.specs.declared.TheConstants.{DECIMALS_MAX};
 ghost use Rattle.step_text.specs.Ranges.{AreInRange};
 ghost use Rattle.mesh_field.specs.Stored.{IsWellKept};
 ghost use Rattle.mesh_sizing.specs.Sizes.{IsWellKept as SizesWell};
-ghost use Rattle.outside_io.specs.Outside.{Counts, holds_of};
-ghost use Rattle.track_engine.specs.State.{groups_of};
+ghost use Rattle.outside_io.specs.Outside.{Counts};
 ghost use Rattle.track_engine.specs.Engines.{state_in};
 ghost use Rattle.track_engine.specs.Invariant.{HasRoom, MarksHold};
 ghost use Rattle.track_engine.specs.Ready.{IsReady};
-ghost use Rattle.track_engine.specs.Targets.{target_of};
-ghost use Rattle.track_engine.specs.Answered.{known, FollowsAnswers};
+ghost use Rattle.track_engine.specs.Calls.{DoesAll, groups_in};
 
 use crate::engine::Engine;
 use crate::lines::finish;
@@ -33,8 +31,7 @@ impl<S: Surface> Engine<S> {
         ensures mesh { S.mesh self.new.mesh ≡ S.mesh self.old.mesh }
         ensures run { self.new.run ≡ self.old.run }
         ensures marks { MarksHold S.beyond (S.kept self.new.mesh) self.new.run.groups }
-        ensures groups { groups_of (S.kept self.new.mesh) self.new.run.groups
-            ≡ groups_of (S.kept self.old.mesh) self.old.run.groups }
+        ensures groups { groups_in S.kept self.new ≡ groups_in S.kept self.old }
     {
         if !self.run.groups.is_open() {
             self.mesh.settle();
@@ -62,11 +59,7 @@ impl<S: Surface> Engine<S> {
         requires ranges { AreInRange steps.now }
         requires ready { IsReady S.beyond S.mesh S.kept self.old }
         requires room { HasRoom (length steps.now) self.old.run }
-        ensures follows { FollowsAnswers
-            (known F.Fn terms.now.fields.now G.Fn terms.now.sizing.now)
-            (target_of terms.now.to) steps.now
-            (state_in S.mesh S.kept self.old) (state_in S.mesh S.kept self.new)
-            (holds_of (O.around outside.old)) (holds_of (O.around outside.new)) result }
+        ensures follows { DoesAll S.mesh S.kept O.around self outside F.Fn G.Fn terms.now steps.now result }
         ensures counts { Counts (O.around outside.old) (O.around outside.new) result }
     {
         for placed in steps {

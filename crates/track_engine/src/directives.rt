@@ -6,26 +6,27 @@ ghost use Rattle.mesh_sizing.specs.Sizes.{IsWellKept as SizesWell};
 ghost use Rattle.step_text.specs.Ranges.{IsInRange};
 ghost use Rattle.step_choose.specs.Chosen.{way_of};
 ghost use Rattle.log_write.specs.Written.{Says};
-ghost use Rattle.outside_io.specs.Outside.{Counts, StoresNothing, holds_of, written_of};
+ghost use Rattle.outside_io.specs.Outside.{Counts, LeavesDesk, holds_of};
 ghost use Rattle.track_engine.specs.Answers.{without_field};
-ghost use Rattle.track_engine.specs.Answered.{known, is_fit};
+ghost use Rattle.track_engine.specs.Answered.{is_fit};
+ghost use Rattle.track_engine.specs.Calls.{DoesOne, EnginePasses, EngineSteps, RefusalKeepsState, TellsStep, meshes_left};
 ghost use Rattle.track_engine.specs.Effects.{effect_of, sum_of_all, is_whole, moved_mesh, way_lines};
 ghost use Rattle.track_engine.specs.Engines.{state_in};
 ghost use Rattle.track_engine.specs.Groups.{failed_if};
-ghost use Rattle.track_engine.specs.Invariant.{HasRoom, MarksHold, left_by};
-ghost use Rattle.track_engine.specs.Parts.{Advances, HasAdvanced, StepTakes, PassTakes};
+ghost use Rattle.track_engine.specs.Invariant.{HasRoom, MarksHold};
+ghost use Rattle.track_engine.specs.Parts.{Advances};
 ghost use Rattle.track_engine.specs.Placing.{CanPlace};
 ghost use Rattle.track_engine.specs.Ready.{IsReady};
 ghost use Rattle.track_engine.specs.Shifting.{AsksNow};
 ghost use Rattle.track_engine.specs.State.{asked_in};
 ghost use Rattle.track_engine.specs.Targets.{target_of};
-ghost use Rattle.track_engine.specs.Told.{step_told, pass_told, step_untold, pass_untold};
+ghost use Rattle.track_engine.specs.Told.{pass_told, step_untold, pass_untold};
 
 use crate::asked_shifts::AskedShifts;
 use crate::engine::Engine;
 use crate::field_shifts::{field_of, is_fit};
 use crate::placement::{first_outside, place_all};
-use crate::shift_sums::{all_summed, asked_in, only_given, sum_one};
+use crate::shift_sums::{all_summed, asked_in, keep_asked, sum_one};
 use crate::step_lines::{say_hits, say_way};
 use crate::target::Target;
 use crate::terms::RunTerms;
@@ -115,19 +116,13 @@ impl<S: Surface> Engine<S> {
     ) -> Result<Result<StepTold, UseWhy>, Stop>
         requires ready { IsReady S.beyond S.mesh S.kept self.old }
         requires steps { self.old.run.steps + 1 < 2 ^ 32 }
-        ensures takes { StepTakes
-            (state_in S.mesh S.kept self.old) (state_in S.mesh S.kept self.new)
-            (written_of (O.around outside.old)) (written_of (O.around outside.new))
-            (step_untold result) }
-        ensures told { IfOk result (λ taken. IfOk taken
-            (λ told. told ≡ step_told (state_in S.mesh S.kept self.old))) }
-        ensures left { IfOk (step_untold result) (λ refused. IsSome refused →
-            state_in S.mesh S.kept self.new ≡ state_in S.mesh S.kept self.old) }
+        ensures takes { EngineSteps S.mesh S.kept O.around self outside (step_untold result) }
+        ensures told { TellsStep (state_in S.mesh S.kept self.old) result }
+        ensures left { RefusalKeepsState S.mesh S.kept self (step_untold result) }
         ensures ready { IfOk result (λ _. IsReady S.beyond S.mesh S.kept self.new) }
         ensures marks { MarksHold S.beyond (S.kept self.new.mesh) self.new.run.groups }
         ensures begins { BeginsWith (S.kept self.new.mesh) (S.kept self.old.mesh) }
-        ensures nothing_stored { StoresNothing
-            (O.around outside.old) (O.around outside.new) (step_untold result) }
+        ensures nothing_stored { LeavesDesk O.around outside (step_untold result) }
     {
         let asked = asked_in(alloc, &self.mesh, &self.run.asked)?;
         if let Some(v) = first_outside(&self.mesh, asked.as_slice()) {
@@ -155,15 +150,11 @@ impl<S: Surface> Engine<S> {
     ) -> Result<Option<UseWhy>, Stop>
         requires ready { IsReady S.beyond S.mesh S.kept self.old }
         requires steps { self.old.run.steps + 1 < 2 ^ 32 }
-        ensures takes { StepTakes
-            (state_in S.mesh S.kept self.old) (state_in S.mesh S.kept self.new)
-            (written_of (O.around outside.old)) (written_of (O.around outside.new)) result }
-        ensures left { IfOk result (λ refused. IsSome refused →
-            state_in S.mesh S.kept self.new ≡ state_in S.mesh S.kept self.old) }
+        ensures takes { EngineSteps S.mesh S.kept O.around self outside result }
+        ensures left { RefusalKeepsState S.mesh S.kept self result }
         ensures marks { MarksHold S.beyond (S.kept self.new.mesh) self.new.run.groups }
         ensures begins { BeginsWith (S.kept self.new.mesh) (S.kept self.old.mesh) }
-        ensures nothing_stored { StoresNothing
-            (O.around outside.old) (O.around outside.new) result }
+        ensures nothing_stored { LeavesDesk O.around outside result }
     {
         let told = self.step(alloc, outside);
         step_untold(told)
@@ -179,19 +170,15 @@ impl<S: Surface> Engine<S> {
         outside: &mut O,
     ) -> Result<PassCount, Stop>
         requires ready { IsReady S.beyond S.mesh S.kept self.old }
-        ensures passes { PassTakes kind
-            (state_in S.mesh S.kept self.old) (state_in S.mesh S.kept self.new)
-            (written_of (O.around outside.old)) (written_of (O.around outside.new))
-            (pass_untold result) }
+        ensures passes { EnginePasses S.mesh S.kept O.around self outside kind (pass_untold result) }
         ensures told { IfOk result
             (λ count. count ≡ pass_told kind (state_in S.mesh S.kept self.old)) }
         ensures ready { IfOk result (λ _. IsReady S.beyond S.mesh S.kept self.new) }
         ensures marks { MarksHold S.beyond (S.kept self.new.mesh) self.new.run.groups }
         ensures begins { BeginsWith (S.kept self.new.mesh) (S.kept self.old.mesh) }
-        ensures nothing_stored { StoresNothing
-            (O.around outside.old) (O.around outside.new) (pass_untold result) }
+        ensures nothing_stored { LeavesDesk O.around outside (pass_untold result) }
     {
-        only_given(alloc, &self.mesh, &mut self.run.asked)?;
+        keep_asked(alloc, &self.mesh, &mut self.run.asked)?;
         let terms = PassTerms {
             kind,
             depth: self.run.set.depth,
@@ -210,13 +197,10 @@ impl<S: Surface> Engine<S> {
         outside: &mut O,
     ) -> Result<Option<UseWhy>, Stop>
         requires ready { IsReady S.beyond S.mesh S.kept self.old }
-        ensures passes { PassTakes kind
-            (state_in S.mesh S.kept self.old) (state_in S.mesh S.kept self.new)
-            (written_of (O.around outside.old)) (written_of (O.around outside.new)) result }
+        ensures passes { EnginePasses S.mesh S.kept O.around self outside kind result }
         ensures marks { MarksHold S.beyond (S.kept self.new.mesh) self.new.run.groups }
         ensures begins { BeginsWith (S.kept self.new.mesh) (S.kept self.old.mesh) }
-        ensures nothing_stored { StoresNothing
-            (O.around outside.old) (O.around outside.new) result }
+        ensures nothing_stored { LeavesDesk O.around outside result }
     {
         let told = self.pass(alloc, kind, outside);
         pass_untold(told)
@@ -240,11 +224,9 @@ impl<S: Surface> Engine<S> {
             Advances (target_of to.entry) effect old (state_in S.mesh S.kept self.new)
             (holds_of (O.around outside.old)) (holds_of (O.around outside.new)) result }
         // A refusal leaves the state as it was.
-        ensures left { IfOk result (λ refused. IsSome refused →
-            state_in S.mesh S.kept self.new ≡ state_in S.mesh S.kept self.old) }
+        ensures left { RefusalKeepsState S.mesh S.kept self result }
         ensures marks { MarksHold S.beyond (S.kept self.new.mesh) self.new.run.groups }
-        ensures begins { let left = left_by what.now self.old.run.groups (S.kept self.old.mesh) in
-            BeginsWith (S.kept self.new.mesh) left }
+        ensures begins { BeginsWith (S.kept self.new.mesh) (meshes_left what.now S.kept self.old) }
         ensures counts { Counts (O.around outside.old) (O.around outside.new) result }
     {
         match what {
@@ -303,15 +285,10 @@ impl<S: Surface> Engine<S> {
         requires range { IsInRange what.now }
         requires ready { IsReady S.beyond S.mesh S.kept self.old }
         requires room { HasRoom 1 self.old.run }
-        ensures does { HasAdvanced
-            (known F.Fn terms.now.fields.now G.Fn terms.now.sizing.now)
-            (target_of terms.now.to) what.now
-            (state_in S.mesh S.kept self.old) (state_in S.mesh S.kept self.new)
-            (O.around outside.old) (O.around outside.new) result }
+        ensures does { DoesOne S.mesh S.kept O.around self outside F.Fn G.Fn terms.now what.now result }
         ensures ready { result ≡ Ok None → IsReady S.beyond S.mesh S.kept self.new }
         ensures marks { MarksHold S.beyond (S.kept self.new.mesh) self.new.run.groups }
-        ensures begins { let left = left_by what.now self.old.run.groups (S.kept self.old.mesh) in
-            BeginsWith (S.kept self.new.mesh) left }
+        ensures begins { BeginsWith (S.kept self.new.mesh) (meshes_left what.now S.kept self.old) }
     {
         if is_fit(what) {
             return self.take_fit(alloc, terms.sizing, outside);

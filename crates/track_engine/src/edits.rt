@@ -1,18 +1,15 @@
 //! Edits that are asked for by ids, and a group that is taken back by choice.
-ghost use Rattle.std.specs.Prelude.{◌≡◌, ◌++◌, true, IfOk, OnOk};
+ghost use Rattle.std.specs.Prelude.{◌≡◌, IfOk, OnOk};
 ghost use Rattle.mesh_base.specs.Kept.{BeginsWith};
-ghost use Rattle.step_text.specs.declared.Directive.TheVariants.{Close};
-ghost use Rattle.outside_io.specs.Outside.{StoresNothing, written_of};
-ghost use Rattle.track_engine.specs.Effects.{edited_answers, edits_effect, undo_effect};
+ghost use Rattle.outside_io.specs.Outside.{LeavesDesk};
+ghost use Rattle.track_engine.specs.Calls.{AddsAnswers, CountsEdits, EngineEdits, EngineUndoes, meshes_undone};
 ghost use Rattle.track_engine.specs.Engines.{state_in};
-ghost use Rattle.track_engine.specs.Groups.{failed_if};
-ghost use Rattle.track_engine.specs.Invariant.{MarksHold, left_by};
-ghost use Rattle.track_engine.specs.Parts.{Writes};
+ghost use Rattle.track_engine.specs.Invariant.{MarksHold};
 ghost use Rattle.track_engine.specs.Ready.{IsReady};
-ghost use Rattle.track_engine.specs.Told.{edits_counted, pass_untold};
+ghost use Rattle.track_engine.specs.Told.{pass_untold};
 
 use crate::engine::Engine;
-use crate::shift_sums::only_given;
+use crate::shift_sums::keep_asked;
 use edit_base::Asked;
 use log_write::Listener;
 use mesh_base::{Surface, UseWhy};
@@ -35,21 +32,15 @@ impl<S: Surface> Engine<S> {
         outside: &mut O,
     ) -> Result<PassCount, Stop>
         requires ready { IsReady S.beyond S.mesh S.kept self.old }
-        ensures writes { let old = state_in S.mesh S.kept self.old in
-            Writes (edits_effect asked.now old) (state_in S.mesh S.kept self.new)
-            (written_of (O.around outside.old)) (written_of (O.around outside.new))
-            (pass_untold result) }
-        ensures told { IfOk result
-            (λ count. count ≡ edits_counted asked.now (state_in S.mesh S.kept self.old)) }
-        ensures answers { let all = edited_answers asked.now (state_in S.mesh S.kept self.old) in
-            OnOk result (answers.new ≡ answers.old ++ all) }
+        ensures writes { EngineEdits S.mesh S.kept O.around self outside asked.now (pass_untold result) }
+        ensures told { IfOk result (CountsEdits asked.now (state_in S.mesh S.kept self.old)) }
+        ensures answers { OnOk result (AddsAnswers asked.now (state_in S.mesh S.kept self.old) answers) }
         ensures ready { IfOk result (λ _. IsReady S.beyond S.mesh S.kept self.new) }
         ensures marks { MarksHold S.beyond (S.kept self.new.mesh) self.new.run.groups }
         ensures begins { BeginsWith (S.kept self.new.mesh) (S.kept self.old.mesh) }
-        ensures nothing_stored { StoresNothing
-            (O.around outside.old) (O.around outside.new) (pass_untold result) }
+        ensures nothing_stored { LeavesDesk O.around outside (pass_untold result) }
     {
-        only_given(alloc, &self.mesh, &mut self.run.asked)?;
+        keep_asked(alloc, &self.mesh, &mut self.run.asked)?;
         let terms = EditTerms {
             depth: self.run.set.depth,
             grouped: self.run.groups.is_open(),
@@ -68,16 +59,12 @@ impl<S: Surface> Engine<S> {
         outside: &mut O,
     ) -> Result<Option<UseWhy>, Stop>
         requires { IsReady S.beyond S.mesh S.kept self.old }
-        ensures writes { let old = state_in S.mesh S.kept self.old in
-            Writes (undo_effect old.groups old) (state_in S.mesh S.kept self.new)
-            (written_of (O.around outside.old)) (written_of (O.around outside.new)) result }
+        ensures writes { EngineUndoes S.mesh S.kept O.around self outside result }
         ensures taken { IfOk result (λ refused. refused ≡ None) }
         ensures ready { IfOk result (λ _. IsReady S.beyond S.mesh S.kept self.new) }
         ensures marks { MarksHold S.beyond (S.kept self.new.mesh) self.new.run.groups }
-        ensures begins { let failed = failed_if true self.old.run.groups in
-            BeginsWith (S.kept self.new.mesh) (left_by Close failed (S.kept self.old.mesh)) }
-        ensures nothing_stored { StoresNothing
-            (O.around outside.old) (O.around outside.new) result }
+        ensures begins { BeginsWith (S.kept self.new.mesh) (meshes_undone S.kept self.old) }
+        ensures nothing_stored { LeavesDesk O.around outside result }
     {
         self.run.groups.fail_if(true);
         self.close_group(alloc, outside)

@@ -61,7 +61,7 @@ fn answer_at<S: Surface, F: Fn(u8, Point) -> Shift>(
 
 // What is asked of each vertex with the answer of a field added, but of solid ones, or the first vertex for which the sum is above the
 // limit. The field is asked once for each vertex that is not solid, by rising id.
-fn all_driven<S: Surface, F: Fn(u8, Point) -> Shift>(
+fn drive_all<S: Surface, F: Fn(u8, Point) -> Shift>(
     alloc: Global,
     mesh: &S,
     asked: &[ShiftOf],
@@ -113,7 +113,7 @@ impl<S: Surface> Engine<S> {
         let Ok(asked) = asked_in(alloc, &self.mesh, &self.run.asked) else {
             return Err(Stop::NoMemory);
         };
-        match all_driven(alloc, &self.mesh, asked.as_slice(), fields, which) {
+        match drive_all(alloc, &self.mesh, asked.as_slice(), fields, which) {
             Err(_) => Err(Stop::NoMemory),
             Ok(Err(v)) => Ok(Some(UseWhy::ShiftRange { v: v.0 })),
             Ok(Ok(sums)) => {

@@ -1,12 +1,11 @@
 ghost use Rattle.std.specs.Prelude.{◌≡◌, false, length, IfOk, OnErr};
 ghost use Rattle.mesh_base.specs.Kept.{BeginsWith, MarkHolds, StandsFor};
 ghost use Rattle.step_text.specs.declared.Directive.TheVariants.{Group, Close};
-ghost use Rattle.outside_io.specs.Outside.{StoresNothing, written_of};
+ghost use Rattle.outside_io.specs.Outside.{LeavesDesk};
 ghost use Rattle.track_engine.specs.Answers.{Nothing};
 ghost use Rattle.track_engine.specs.Effects.{effect_of};
-ghost use Rattle.track_engine.specs.Engines.{state_in};
-ghost use Rattle.track_engine.specs.Parts.{Writes};
-ghost use Rattle.track_engine.specs.Invariant.{MarksHold, left_by};
+ghost use Rattle.track_engine.specs.Calls.{EngineWrites, meshes_left};
+ghost use Rattle.track_engine.specs.Invariant.{MarksHold};
 
 use crate::asked_shifts::AskedShifts;
 use crate::engine::Engine;
@@ -50,16 +49,13 @@ impl<S: Surface> Engine<S> {
         outside: &mut O,
     ) -> Result<Option<UseWhy>, Stop>
         requires { MarksHold S.beyond (S.kept self.old.mesh) self.old.run.groups }
-        ensures writes { Writes (effect_of Nothing Group (state_in S.mesh S.kept self.old))
-            (state_in S.mesh S.kept self.new)
-            (written_of (O.around outside.old)) (written_of (O.around outside.new)) result }
+        ensures writes { EngineWrites S.mesh S.kept O.around self outside (effect_of Nothing Group) result }
         ensures taken { IfOk result (λ refused. refused ≡ None) }
         ensures left { OnErr result (self.new.run ≡ self.old.run) }
         ensures mesh { S.mesh self.new.mesh ≡ S.mesh self.old.mesh }
         ensures marks { MarksHold S.beyond (S.kept self.new.mesh) self.new.run.groups }
         ensures begins { BeginsWith (S.kept self.new.mesh) (S.kept self.old.mesh) }
-        ensures nothing_stored { StoresNothing
-            (O.around outside.old) (O.around outside.new) result }
+        ensures nothing_stored { LeavesDesk O.around outside result }
     {
         let group = group_here(alloc, &mut self.mesh, &self.run.asked)?;
         self.run.groups.open(group)?;
@@ -78,16 +74,12 @@ impl<S: Surface> Engine<S> {
         outside: &mut O,
     ) -> Result<Option<UseWhy>, Stop>
         requires { MarksHold S.beyond (S.kept self.old.mesh) self.old.run.groups }
-        ensures writes { Writes (effect_of Nothing Close (state_in S.mesh S.kept self.old))
-            (state_in S.mesh S.kept self.new)
-            (written_of (O.around outside.old)) (written_of (O.around outside.new)) result }
+        ensures writes { EngineWrites S.mesh S.kept O.around self outside (effect_of Nothing Close) result }
         ensures taken { IfOk result (λ refused. refused ≡ None) }
         ensures left { OnErr result (self.new ≡ self.old) }
         ensures marks { MarksHold S.beyond (S.kept self.new.mesh) self.new.run.groups }
-        ensures begins { let left = left_by Close self.old.run.groups (S.kept self.old.mesh) in
-            BeginsWith (S.kept self.new.mesh) left }
-        ensures nothing_stored { StoresNothing
-            (O.around outside.old) (O.around outside.new) result }
+        ensures begins { BeginsWith (S.kept self.new.mesh) (meshes_left Close S.kept self.old) }
+        ensures nothing_stored { LeavesDesk O.around outside result }
     {
         let Some(failed) = self.run.groups.has_failed() else {
             return Ok(None);

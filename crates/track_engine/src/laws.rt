@@ -1,13 +1,6 @@
 //! Laws of logs. Each is the contract of a function that does nothing.
 
-ghost use Rattle.std.specs.Prelude.{◌≡◌, true, false, List, [], ◌++◌};
-ghost use Rattle.mesh_field.specs.Stored.{StoredFields};
-ghost use Rattle.step_text.specs.declared.Placed.{Placed};
-ghost use Rattle.track_engine.specs.State.{State};
-ghost use Rattle.track_engine.specs.Answers.{Answers, NoneFits, without_fields};
-ghost use Rattle.track_engine.specs.Answered.{known, AreAnswered};
-ghost use Rattle.track_engine.specs.Effects.{log_from};
-ghost use Rattle.track_engine.specs.FirstParts.{IsFirstPart};
+ghost use Rattle.track_engine.specs.FirstParts.{FewerAnswersGiveAFirstPart, NoFieldsGiveOneLog, NoFieldsGiveAFirstPart};
 ghost use Rattle.track_engine.specs.Again.{LogsAreAgain};
 ghost use Rattle.track_engine.specs.Asking.{EditsKeepTheRun, EditsCanBeDoneAgain, UndoKeepsTheRun, UndoCanBeDoneAgain};
 
@@ -17,21 +10,14 @@ use mesh_sizing::Band;
 /// The log by fewer answers is a first part of the log by more: it is cut short before a directive that is not answered, and otherwise
 /// nothing in it hangs on the answers that are to come. (Behind an answer of the first edges of a pass alone both are cut short.)
 pub fn fewer_answers_give_a_first_part()
-    ensures { (answers more : Answers) (steps : List Placed) (s : State) →
-        IsFirstPart (log_from (answers ++ more) steps s) (log_from answers steps s) }
+    ensures { FewerAnswersGiveAFirstPart }
 {}
 
 /// Where no field is stored, whatever type they would have, and no directive is a pass by the sizing, directives have one log, in which
 /// each drive is refused; a run that is stopped has a first part of it.
 pub fn without_fields_there_is_one_log<F: Fn(u8, Point) -> Shift, G: Fn(Point) -> Band>()
-    ensures whole { (fields : StoredFields F) (sizing : G) (answers : Answers)
-        (steps : List Placed) (s : State) → fields.names ≡ [] → NoneFits steps →
-        AreAnswered (known F.Fn fields G.Fn sizing) true answers steps s →
-        log_from answers steps s ≡ log_from (without_fields steps) steps s }
-    ensures stopped { (fields : StoredFields F) (sizing : G) (answers : Answers)
-        (steps : List Placed) (s : State) → fields.names ≡ [] → NoneFits steps →
-        AreAnswered (known F.Fn fields G.Fn sizing) false answers steps s →
-        IsFirstPart (log_from (without_fields steps) steps s) (log_from answers steps s) }
+    ensures whole { NoFieldsGiveOneLog F.Fn G.Fn }
+    ensures stopped { NoFieldsGiveAFirstPart F.Fn G.Fn }
 {}
 
 /// What the log of directives tells can be done again by the log alone, whatever fields and the sizing answer, from wherever a run stands: each `move`

@@ -1,7 +1,6 @@
 ghost use Rattle.std.specs.Prelude.{◌≡◌, [], ◌∷◌, IfOk, OnErr};
 ghost use Rattle.log_text.specs.Lines.{text_of_line};
-ghost use Rattle.outside_io.specs.Outside.{written_of};
-ghost use Rattle.outside_io.specs.Sink.{AppendsPart};
+ghost use Rattle.outside_io.specs.Outside.{WritesPart};
 ghost use Rattle.log_write.specs.Written.{Says};
 ghost use Rattle.track_engine.specs.Effects.{ending_of};
 
@@ -27,8 +26,7 @@ pub fn finish<O: Listener>(
     last: LogLine,
 ) -> Result<Option<Refusal>, Stop>
     ensures says { Says (last ∷ []) (O.around outside.old) (O.around outside.new) result }
-    ensures part { OnErr result (AppendsPart (written_of (O.around outside.old))
-        (written_of (O.around outside.new)) (text_of_line last)) }
+    ensures part { OnErr result (WritesPart O.around outside (text_of_line last)) }
     ensures ending { IfOk result (λ ending. ending ≡ ending_of last) }
 {
     outside.tell(alloc, &last)?;

@@ -1,11 +1,9 @@
 ghost use Rattle.grid_base.specs.declared.TheConstants.{DECIMALS_MAX};
 ghost use Rattle.std.specs.Prelude.{◌≡◌, ◌≤◌, ◌<◌, ◌+◌, ◌^◌, drop, codes, IfOk, OnOk, OnErr, string_bytes};
-ghost use Rattle.outside_io.specs.Outside.{Counts, holds_of};
+ghost use Rattle.outside_io.specs.Outside.{Counts};
+ghost use Rattle.track_engine.specs.Calls.{EngineSaves, SavesOneMore};
 ghost use Rattle.track_engine.specs.Effects.{mesh_line};
-ghost use Rattle.track_engine.specs.Engines.{state_in};
-ghost use Rattle.track_engine.specs.Parts.{Saves};
 ghost use Rattle.track_engine.specs.Saved.{file_name};
-ghost use Rattle.track_engine.specs.State.{standing};
 ghost use Rattle.track_engine.specs.Targets.{target_of};
 
 use crate::engine::Engine;
@@ -70,11 +68,8 @@ impl<S: Surface> Engine<S> {
     ) -> Result<(), Stop>
         requires few { to.decimals ≤ DECIMALS_MAX }
         requires room { self.old.run.saved + 1 < 2 ^ 32 }
-        ensures saves { let from = standing (state_in S.mesh S.kept self.old) in
-            Saves (target_of to.entry) self.old.run.saved from
-            (holds_of (O.around outside.old)) (holds_of (O.around outside.new)) result }
-        ensures state { let old = state_in S.mesh S.kept self.old in
-            OnOk result (state_in S.mesh S.kept self.new ≡ record old { saved = old.saved + 1 }) }
+        ensures saves { EngineSaves S.mesh S.kept O.around self outside (target_of to.entry) result }
+        ensures state { OnOk result (SavesOneMore S.mesh S.kept self) }
         ensures rest { (self.new.mesh ≡ self.old.mesh)
             × (self.new.run.groups ≡ self.old.run.groups) }
         ensures left { OnErr result (self.new ≡ self.old) }

@@ -19,7 +19,8 @@ impl Model for OpenGroups {
 }
 
 impl OpenGroups {
-    ghost use Rattle.std.specs.Prelude.{◌≡◌, ◌∷◌, [], slice_get, option_map, MatchOption, OnOk, OnErr};
+    ghost use Rattle.std.specs.Prelude.{◌≡◌, ◌∷◌, [], slice_get, option_map, OnOk, OnErr};
+    ghost use Rattle.track_engine.specs.Calls.{TakesInnermost};
     ghost use Rattle.track_engine.specs.Groups.{is_open_in, failed_if};
 
     /// No open group. Takes no memory.
@@ -70,8 +71,7 @@ impl OpenGroups {
 
     /// Closes the innermost open group, and answers it; None where none is open. Takes no memory.
     pub fn close(&mut self) -> Option<OpenGroup>
-        ensures { MatchOption result ((self.old ≡ []) × (self.new ≡ []))
-            (λ group. self.old ≡ group ∷ self.new) }
+        ensures { TakesInnermost self result }
     {
         self.innermost_last.pop()
     }

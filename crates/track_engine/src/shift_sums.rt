@@ -94,7 +94,7 @@ pub fn asked_in<S: Surface>(
 }
 
 /// The same is asked, and of a vertex that is to come nothing, as it is already: so it takes one look at the last that is named.
-pub(crate) fn only_given<S: Surface>(
+pub(crate) fn keep_asked<S: Surface>(
     alloc: Global,
     mesh: &S,
     asked: &mut AskedShifts,

@@ -2,15 +2,15 @@
 ghost use Rattle.std.specs.Prelude.{IfOk};
 ghost use Rattle.mesh_base.specs.Kept.{BeginsWith};
 ghost use Rattle.mesh_sizing.specs.Sizes.{IsWellKept as SizesWell, MayAnswer as MaySize};
-ghost use Rattle.outside_io.specs.Outside.{StoresNothing, written_of};
-ghost use Rattle.track_engine.specs.Engines.{state_in};
+ghost use Rattle.outside_io.specs.Outside.{LeavesDesk};
+ghost use Rattle.track_engine.specs.Calls.{EngineFits, state_after, state_before, text_after, text_before};
 ghost use Rattle.track_engine.specs.Invariant.{MarksHold};
-ghost use Rattle.track_engine.specs.Parts.{FitTakes, FitTells};
+ghost use Rattle.track_engine.specs.Parts.{FitTakes};
 ghost use Rattle.track_engine.specs.Ready.{IsReady};
 ghost use Rattle.track_engine.specs.Told.{pass_untold};
 
 use crate::engine::Engine;
-use crate::shift_sums::only_given;
+use crate::shift_sums::keep_asked;
 use crate::told::pass_untold;
 use grid_base::Point;
 use log_write::Listener;
@@ -33,16 +33,13 @@ impl<S: Surface> Engine<S> {
     ) -> Result<PassCount, Stop>
         requires ready { IsReady S.beyond S.mesh S.kept self.old }
         requires sizing { SizesWell G.Fn sizing.now }
-        ensures fits { FitTells (MaySize G.Fn sizing.now)
-            (state_in S.mesh S.kept self.old) (state_in S.mesh S.kept self.new)
-            (written_of (O.around outside.old)) (written_of (O.around outside.new)) result }
+        ensures fits { EngineFits S.mesh S.kept O.around self outside (MaySize G.Fn sizing.now) result }
         ensures ready { IfOk result (λ _. IsReady S.beyond S.mesh S.kept self.new) }
         ensures marks { MarksHold S.beyond (S.kept self.new.mesh) self.new.run.groups }
         ensures begins { BeginsWith (S.kept self.new.mesh) (S.kept self.old.mesh) }
-        ensures nothing_stored { StoresNothing
-            (O.around outside.old) (O.around outside.new) (pass_untold result) }
+        ensures nothing_stored { LeavesDesk O.around outside (pass_untold result) }
     {
-        only_given(alloc, &self.mesh, &mut self.run.asked)?;
+        keep_asked(alloc, &self.mesh, &mut self.run.asked)?;
         let turns = Turns {
             by: sizing,
             depth: self.run.set.depth,
@@ -63,12 +60,11 @@ impl<S: Surface> Engine<S> {
         requires ready { IsReady S.beyond S.mesh S.kept self.old }
         requires sizing { SizesWell G.Fn sizing.now }
         ensures fits { FitTakes (MaySize G.Fn sizing.now)
-            (state_in S.mesh S.kept self.old) (state_in S.mesh S.kept self.new)
-            (written_of (O.around outside.old)) (written_of (O.around outside.new)) result }
+            (state_before S.mesh S.kept self) (state_after S.mesh S.kept self)
+            (text_before O.around outside) (text_after O.around outside) result }
         ensures marks { MarksHold S.beyond (S.kept self.new.mesh) self.new.run.groups }
         ensures begins { BeginsWith (S.kept self.new.mesh) (S.kept self.old.mesh) }
-        ensures nothing_stored { StoresNothing
-            (O.around outside.old) (O.around outside.new) result }
+        ensures nothing_stored { LeavesDesk O.around outside result }
     {
         let told = self.fit(alloc, sizing, outside);
         pass_untold(told)

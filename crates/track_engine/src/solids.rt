@@ -1,12 +1,10 @@
-ghost use Rattle.std.specs.Prelude.{◌≡◌, IfOk, IsSome};
 ghost use Rattle.mesh_base.specs.Kept.{BeginsWith};
 ghost use Rattle.step_text.specs.declared.Directive.TheVariants.{Solid};
-ghost use Rattle.outside_io.specs.Outside.{StoresNothing, written_of};
+ghost use Rattle.outside_io.specs.Outside.{LeavesDesk};
 ghost use Rattle.track_engine.specs.Answers.{Nothing};
 ghost use Rattle.track_engine.specs.Effects.{effect_of};
-ghost use Rattle.track_engine.specs.Engines.{state_in};
+ghost use Rattle.track_engine.specs.Calls.{EngineWrites, RefusalKeepsState};
 ghost use Rattle.track_engine.specs.Invariant.{MarksHold};
-ghost use Rattle.track_engine.specs.Parts.{Writes};
 ghost use Rattle.track_engine.specs.Ready.{IsReady};
 
 use crate::engine::Engine;
@@ -25,15 +23,11 @@ impl<S: Surface> Engine<S> {
         outside: &mut O,
     ) -> Result<Option<UseWhy>, Stop>
         requires ready { IsReady S.beyond S.mesh S.kept self.old }
-        ensures writes { Writes (effect_of Nothing (Solid v) (state_in S.mesh S.kept self.old))
-            (state_in S.mesh S.kept self.new)
-            (written_of (O.around outside.old)) (written_of (O.around outside.new)) result }
-        ensures left { IfOk result (λ refused. IsSome refused →
-            state_in S.mesh S.kept self.new ≡ state_in S.mesh S.kept self.old) }
+        ensures writes { EngineWrites S.mesh S.kept O.around self outside (effect_of Nothing (Solid v)) result }
+        ensures left { RefusalKeepsState S.mesh S.kept self result }
         ensures marks { MarksHold S.beyond (S.kept self.new.mesh) self.new.run.groups }
         ensures begins { BeginsWith (S.kept self.new.mesh) (S.kept self.old.mesh) }
-        ensures nothing_stored { StoresNothing
-            (O.around outside.old) (O.around outside.new) result }
+        ensures nothing_stored { LeavesDesk O.around outside result }
     {
         let id = VertexId(v);
         if self.mesh.point(id).is_none() {

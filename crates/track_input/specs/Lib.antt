@@ -6,3 +6,4 @@ pub mod Source
 pub mod Fetched
 pub mod Job
 pub mod Reading
+pub mod Reads

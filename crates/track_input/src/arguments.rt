@@ -8,7 +8,7 @@ use grid_base::NoMemory;
 use std::alloc::{AllocError, Global};
 
 // A word that has to be given.
-fn given<'a>(alloc: Global, id: &'a str) -> Arg<'a>
+fn required_word<'a>(alloc: Global, id: &'a str) -> Arg<'a>
     ensures rule { rule_of result ≡ given_rule id.entry.now }
     ensures local { result.global ≡ false }
 {
@@ -16,7 +16,7 @@ fn given<'a>(alloc: Global, id: &'a str) -> Arg<'a>
 }
 
 // `--large`.
-fn large<'a>(alloc: Global) -> Arg<'a>
+fn large_flag<'a>(alloc: Global) -> Arg<'a>
     ensures rule { rule_of result ≡ large_rule }
     ensures local { result.global ≡ false }
 {
@@ -55,22 +55,22 @@ fn pair_command<'a>(
 {
     Command::new(alloc, name)
         .disable_help_flag(true)
-        .arg(given(alloc, first))?
-        .arg(given(alloc, second))
+        .arg(required_word(alloc, first))?
+        .arg(required_word(alloc, second))
 }
 
 // Takes `--large` and `--decimals N` too.
 fn with_options<'a>(alloc: Global, command: Command<'a>) -> Result<Command<'a>, AllocError>
     ensures { IfOk result (λ whole. app_of whole ≡ with_options (app_of command.entry)) }
 {
-    command.arg(large(alloc))?.arg(decimals(alloc))
+    command.arg(large_flag(alloc))?.arg(decimals(alloc))
 }
 
 // Takes the words of `track`, the first of them included.
 pub(crate) fn track_command<'a>(alloc: Global) -> Result<Command<'a>, AllocError>
     ensures { IfOk result (λ command. app_of command ≡ track_app) }
 {
-    let files = pair_command(alloc, "track", "mesh", "steps")?.arg(given(alloc, "prefix"))?;
+    let files = pair_command(alloc, "track", "mesh", "steps")?.arg(required_word(alloc, "prefix"))?;
     with_options(alloc, files)
 }
 
@@ -99,7 +99,7 @@ pub(crate) fn log_command<'a>(alloc: Global, name: &'a str) -> Result<Command<'a
 pub(crate) fn verify_command<'a>(alloc: Global) -> Result<Command<'a>, AllocError>
     ensures { IfOk result (λ command. app_of command ≡ verify_app) }
 {
-    let files = pair_command(alloc, "verify", "mesh", "log")?.arg(given(alloc, "proof"))?;
+    let files = pair_command(alloc, "verify", "mesh", "log")?.arg(required_word(alloc, "proof"))?;
     with_options(alloc, files)
 }
 
@@ -107,7 +107,7 @@ pub(crate) fn verify_command<'a>(alloc: Global) -> Result<Command<'a>, AllocErro
 pub(crate) fn replay_command<'a>(alloc: Global) -> Result<Command<'a>, AllocError>
     ensures { IfOk result (λ command. app_of command ≡ replay_app) }
 {
-    let files = pair_command(alloc, "replay", "mesh", "log")?.arg(given(alloc, "prefix"))?;
+    let files = pair_command(alloc, "replay", "mesh", "log")?.arg(required_word(alloc, "prefix"))?;
     with_options(alloc, files)?.arg(only(alloc))
 }
 
@@ -117,7 +117,7 @@ pub(crate) fn check_command<'a>(alloc: Global) -> Result<Command<'a>, AllocError
 {
     let file = Command::new(alloc, "check")
         .disable_help_flag(true)
-        .arg(given(alloc, "mesh"))?;
+        .arg(required_word(alloc, "mesh"))?;
     with_options(alloc, file)
 }
 

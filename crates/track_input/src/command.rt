@@ -1,9 +1,10 @@
-ghost use Rattle.std.specs.Prelude.{◌≡◌, ◌≤◌, map, option_map, IfOk, IfSome, string_bytes};
+ghost use Rattle.std.specs.Prelude.{◌≡◌, ◌≤◌, option_map, IfOk, IfSome};
 ghost use Rattle.clap.specs.Words.{found_of, first_value};
 ghost use Rattle.grid_base.specs.declared.TheConstants.{DECIMALS_MAX};
 ghost use Rattle.track_input.specs.Words.{is_decimals, decimals_in, told_in, number_in, options_in};
-ghost use Rattle.track_input.specs.Taken.{digit_words, behind, options_behind, IsReading};
-ghost use Rattle.track_input.specs.Commands.{scale_of, track_read, convert_read, try_read, log_read, measure_read, prove_read, verify_read, replay_read, check_read, track_app, convert_app, try_app, measure_app, prove_app, verify_app, replay_app, check_app, IsReadBy, IsReadExactly};
+ghost use Rattle.track_input.specs.Taken.{digit_words, behind, options_behind};
+ghost use Rattle.track_input.specs.Commands.{scale_of, track_read, convert_read, try_read, log_read, measure_read, prove_read, verify_read, replay_read, check_read, track_app, convert_app, try_app, measure_app, prove_app, verify_app, replay_app, check_app};
+ghost use Rattle.track_input.specs.Reads.{ReadsWords, ReadsWordsBy, ReadsWordsExactly};
 ghost use Rattle.track_input.specs.Named.{named_by, log_names, IsInLimits};
 
 use crate::arguments::{
@@ -319,8 +320,7 @@ fn check_read<'a>(found: &ArgMatches<'a>) -> Option<Command<'a>>
 
 // The command of words whose first is `track`.
 fn track_in<'a>(alloc: Global, words: &'a [String]) -> Result<Option<Command<'a>>, NoMemory>
-    ensures read { let texts = map (λ word. string_bytes word) words.entry.now in
-        IfOk result (λ found. IsReadBy track_read track_app texts (option_map named_by found)) }
+    ensures read { IfOk result (ReadsWordsBy track_read track_app words.entry.now) }
     ensures few { IfOk result (λ found. IfSome found IsInLimits) }
 {
     match found_in(track_command(alloc)?, words)? {
@@ -331,8 +331,7 @@ fn track_in<'a>(alloc: Global, words: &'a [String]) -> Result<Option<Command<'a>
 
 // The command of words whose first is `convert`.
 fn convert_in<'a>(alloc: Global, words: &'a [String]) -> Result<Option<Command<'a>>, NoMemory>
-    ensures read { let texts = map (λ word. string_bytes word) words.entry.now in
-        IfOk result (λ found. IsReadBy convert_read convert_app texts (option_map named_by found)) }
+    ensures read { IfOk result (ReadsWordsBy convert_read convert_app words.entry.now) }
     ensures few { IfOk result (λ found. IfSome found IsInLimits) }
 {
     match found_in(convert_command(alloc)?, words)? {
@@ -343,8 +342,7 @@ fn convert_in<'a>(alloc: Global, words: &'a [String]) -> Result<Option<Command<'
 
 // The command of words whose first is `try`.
 fn try_in<'a>(alloc: Global, words: &'a [String]) -> Result<Option<Command<'a>>, NoMemory>
-    ensures read { let texts = map (λ word. string_bytes word) words.entry.now in
-        IfOk result (λ found. IsReadBy try_read try_app texts (option_map named_by found)) }
+    ensures read { IfOk result (ReadsWordsBy try_read try_app words.entry.now) }
     ensures few { IfOk result (λ found. IfSome found IsInLimits) }
 {
     match found_in(try_command(alloc)?, words)? {
@@ -355,8 +353,7 @@ fn try_in<'a>(alloc: Global, words: &'a [String]) -> Result<Option<Command<'a>>,
 
 // The command of words whose first is `measure`.
 fn measure_in<'a>(alloc: Global, words: &'a [String]) -> Result<Option<Command<'a>>, NoMemory>
-    ensures read { let texts = map (λ word. string_bytes word) words.entry.now in
-        IfOk result (λ found. IsReadBy measure_read measure_app texts (option_map named_by found)) }
+    ensures read { IfOk result (ReadsWordsBy measure_read measure_app words.entry.now) }
     ensures few { IfOk result (λ found. IfSome found IsInLimits) }
 {
     match found_in(log_command(alloc, "measure")?, words)? {
@@ -367,8 +364,7 @@ fn measure_in<'a>(alloc: Global, words: &'a [String]) -> Result<Option<Command<'
 
 // The command of words whose first is `prove`.
 fn prove_in<'a>(alloc: Global, words: &'a [String]) -> Result<Option<Command<'a>>, NoMemory>
-    ensures read { let texts = map (λ word. string_bytes word) words.entry.now in
-        IfOk result (λ found. IsReadBy prove_read prove_app texts (option_map named_by found)) }
+    ensures read { IfOk result (ReadsWordsBy prove_read prove_app words.entry.now) }
     ensures few { IfOk result (λ found. IfSome found IsInLimits) }
 {
     match found_in(log_command(alloc, "prove")?, words)? {
@@ -379,8 +375,7 @@ fn prove_in<'a>(alloc: Global, words: &'a [String]) -> Result<Option<Command<'a>
 
 // The command of words whose first is `verify`.
 fn verify_in<'a>(alloc: Global, words: &'a [String]) -> Result<Option<Command<'a>>, NoMemory>
-    ensures read { let texts = map (λ word. string_bytes word) words.entry.now in
-        IfOk result (λ found. IsReadBy verify_read verify_app texts (option_map named_by found)) }
+    ensures read { IfOk result (ReadsWordsBy verify_read verify_app words.entry.now) }
     ensures few { IfOk result (λ found. IfSome found IsInLimits) }
 {
     match found_in(verify_command(alloc)?, words)? {
@@ -391,8 +386,7 @@ fn verify_in<'a>(alloc: Global, words: &'a [String]) -> Result<Option<Command<'a
 
 // The command of words whose first is `replay`.
 fn replay_in<'a>(alloc: Global, words: &'a [String]) -> Result<Option<Command<'a>>, NoMemory>
-    ensures read { let texts = map (λ word. string_bytes word) words.entry.now in
-        IfOk result (λ found. IsReadBy replay_read replay_app texts (option_map named_by found)) }
+    ensures read { IfOk result (ReadsWordsBy replay_read replay_app words.entry.now) }
     ensures few { IfOk result (λ found. IfSome found IsInLimits) }
 {
     match found_in(replay_command(alloc)?, words)? {
@@ -403,8 +397,7 @@ fn replay_in<'a>(alloc: Global, words: &'a [String]) -> Result<Option<Command<'a
 
 // The command of words whose first is `check`.
 fn check_in<'a>(alloc: Global, words: &'a [String]) -> Result<Option<Command<'a>>, NoMemory>
-    ensures read { let texts = map (λ word. string_bytes word) words.entry.now in
-        IfOk result (λ found. IsReadBy check_read check_app texts (option_map named_by found)) }
+    ensures read { IfOk result (ReadsWordsBy check_read check_app words.entry.now) }
     ensures few { IfOk result (λ found. IfSome found IsInLimits) }
 {
     match found_in(check_command(alloc)?, words)? {
@@ -421,10 +414,8 @@ fn check_in<'a>(alloc: Global, words: &'a [String]) -> Result<Option<Command<'a>
 /// first word whose words are among them (options may stand before the files and in any order, as `--decimals=N` and `--only=K` too), or
 /// they are no command. NoMemory at any words.
 pub fn command_of<'a>(alloc: Global, words: &'a [String]) -> Result<Option<Command<'a>>, NoMemory>
-    ensures read { let texts = map (λ word. string_bytes word) words.entry.now in
-        IfOk result (λ found. IsReading texts (option_map named_by found)) }
-    ensures exact { let texts = map (λ word. string_bytes word) words.entry.now in
-        IfOk result (λ found. IsReadExactly texts (option_map named_by found)) }
+    ensures read { IfOk result (ReadsWords words.entry.now) }
+    ensures exact { IfOk result (ReadsWordsExactly words.entry.now) }
     ensures few { IfOk result (λ found. IfSome found IsInLimits) }
 {
     let Some(first) = words.first() else {

@@ -1,7 +1,8 @@
 ghost use Rattle.std.specs.Prelude.{◌≤◌, length, IfOk};
 ghost use Rattle.grid_base.specs.declared.TheConstants.{TEXT_MAX, DECIMALS_MAX};
 ghost use Rattle.outside_io.specs.Outside.{OnlyLooks};
-ghost use Rattle.track_input.specs.Reading.{Prepares, Reads};
+ghost use Rattle.track_input.specs.Reading.{Reads};
+ghost use Rattle.track_input.specs.Reads.{PreparesJob};
 
 use crate::text_fetch::fetch_text;
 use grid_base::NoMemory;
@@ -64,8 +65,7 @@ pub fn prepare<O: Outside>(
     outside: &mut O,
 ) -> Result<Ready, Stop>
     requires few { decimals ≤ DECIMALS_MAX }
-    ensures prepares { let files = (O.around outside.old).world.holds.files in
-        IfOk result (Prepares scale files mesh_name.now step_name.now decimals) }
+    ensures prepares { PreparesJob O.around outside scale mesh_name.now step_name.now decimals result }
     ensures looks { OnlyLooks (O.around outside.old) (O.around outside.new) result }
 {
     let mesh = match fetch_text(alloc, scale, outside, mesh_name)? {

@@ -1,7 +1,6 @@
 ghost use Rattle.std.specs.Prelude.{IfOk};
-ghost use Rattle.outside_io.specs.Outside.{OnlyLooks};
-ghost use Rattle.track_input.specs.Fetched.{source_of};
-ghost use Rattle.track_input.specs.Source.{IsSource};
+ghost use Rattle.outside_io.specs.Outside.{OnlyLooks, files_before};
+ghost use Rattle.track_input.specs.Reads.{FetchesText};
 
 use mesh_base::Scale;
 use outside_io::{Fetched, Outside, Stop};
@@ -14,8 +13,7 @@ pub fn fetch_text<O: Outside>(
     outside: &mut O,
     name: &str,
 ) -> Result<Fetched, Stop>
-    ensures source { let files = (O.around outside.old).world.holds.files in
-        IfOk result (λ found. IsSource scale files name.now (source_of found)) }
+    ensures source { IfOk result (FetchesText scale (files_before O.around outside) name.now) }
     ensures looks { OnlyLooks (O.around outside.old) (O.around outside.new) result }
 {
     outside.fetch(alloc, name, scale.text_most())

@@ -1,6 +1,11 @@
 -- Jobs of which nothing is refused, and how a run of one ends.
 use Rattle.std.specs.Prelude.{◌≡◌, ◌≤◌, ◌⊎◌, ℕ, true, List, length, Option, Some, None, Ok}
 use Rattle.std.specs.FinMap.{get}
+use Rattle.std.specs.Fn.{Shared}
+use Rattle.grid_base.specs.declared.Point.{Point}
+use Rattle.grid_base.specs.declared.Shift.{Shift}
+use Rattle.mesh_field.specs.Stored.{StoredFields}
+use Rattle.mesh_sizing.specs.declared.sizing.Band.{Band}
 use Rattle.mesh_base.specs.declared.Scale.{Scale}
 use Rattle.mesh_base.specs.Limits.{text_most}
 use Rattle.mesh_base.specs.Placements.{IsClearMesh}
@@ -13,7 +18,7 @@ use Rattle.outside_io.specs.Desk.{Files}
 use Rattle.track_input.specs.Job.{mesh_of_lists}
 use Rattle.track_engine.specs.State.{State, start}
 use Rattle.track_engine.specs.Answers.{Answers}
-use Rattle.track_engine.specs.Answered.{Known, AreAnswered}
+use Rattle.track_engine.specs.Answered.{Known, known, AreAnswered}
 use Rattle.track_engine.specs.Saved.{Target}
 use Rattle.track_engine.specs.World.{World}
 use Rattle.track_run.specs.declared.outcome.Outcome.{Outcome}
@@ -62,6 +67,13 @@ LawfulJobsAreDone fields =
     → IsLawful scale fields old.holds.files mesh_name step_name to.decimals
     → NoneFailed old new
     → (result ≡ Done) ⊎ (result ≡ NoMemory)
+
+-- That of each job, whatever the stored fields and the sizing may answer.
+abbrev pub AllLawfulJobsAreDone : {F G : Type 0} → Shared F (ℕ × (Point × Unit {0})) Shift →
+    Shared G (Point × Unit {0}) Band → Type 0
+AllLawfulJobsAreDone {F} {G} closures sizings =
+    (fields : StoredFields F) (sizing : G) →
+    LawfulJobsAreDone (known closures fields sizings sizing)
 
 -- Where the sink does not fail, a try is done, or finds no memory.
 abbrev pub TriesAreDone : Type 0

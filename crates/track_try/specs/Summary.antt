@@ -1,12 +1,12 @@
 -- The summary of the job of cubes, which is made and run.
-use Rattle.std.specs.Prelude.{ℕ, ◌*◌, Bool, true, false, List, [], ◌∷◌, ◌++◌, length, count_by, codes, decimal, Option, Some, None}
+use Rattle.std.specs.Prelude.{◌≡◌, ℕ, ◌*◌, Bool, true, false, List, [], ◌∷◌, ◌++◌, length, count_by, codes, decimal, Option, Some, None}
 use Rattle.std.specs.FinMap as finite
 use Rattle.grid_base.specs.declared.grid.Point.{Point}
 use Rattle.mesh_base.specs.Mesh.{Mesh}
 use Rattle.mesh_base.specs.declared.How.TheVariants.{Whole}
 use Rattle.edit_base.specs.declared.Change.TheVariants.{Split}
 use Rattle.line_text.specs.WrittenLines.{line_of_words}
-use Rattle.log_text.specs.Lines.{point_words}
+use Rattle.log_text.specs.Lines.{point_words, text_of_lines}
 use Rattle.log_text.specs.declared.TheConstants.{VERSION}
 use Rattle.log_text.specs.declared.LogLine.{LogLine}
 use Rattle.log_text.specs.declared.LogLine.TheVariants.{First, Step, Moved, Did}
@@ -109,3 +109,8 @@ summary_text n key counts m =
 -- the summary of the job of cubes, by its log and by the mesh to which the replay of the log leads
 unfoldable pub summary_of : ℕ → ℕ → List ℕ
 summary_of n key = summary_text n key (counts_of (log_of_cubes n key)) (replay_of_cubes n key).mesh
+
+-- what counts the lines of one kind in a text counts those of any log in its text
+abbrev pub CountsLines : (List ℕ → ℕ) → (LogLine → Bool) → Type 0
+CountsLines counted is_of_kind =
+    (log : List LogLine) → counted (text_of_lines log) ≡ count_by is_of_kind log

@@ -2,12 +2,11 @@ ghost use Rattle.std.specs.Prelude.{◌≡◌, IfOk, OnOk, OnErr};
 ghost use Rattle.mesh_make.specs.Cubes.{IsRow, cubes_mesh};
 ghost use Rattle.mesh_make.specs.CubeSteps.{cubes_steps};
 ghost use Rattle.mesh_sizing.specs.Sizes.{IsBand};
-ghost use Rattle.outside_io.specs.Outside.{StoresNothing};
-ghost use Rattle.outside_io.specs.Sink.{appended, AppendsPart};
+ghost use Rattle.outside_io.specs.Outside.{StoresNothing, WritesAll, WritesPart};
 ghost use Rattle.track_try.specs.Summary.{summary_of};
 
 use crate::counted_run::run;
-use crate::summary_text::summed_up;
+use crate::summary_text::summary_bytes;
 use grid_base::{NoMemory, Point, Shift};
 use mesh_base::{Scale, Surface};
 use mesh_field::no_fields;
@@ -47,7 +46,7 @@ fn summary_of_run<S: Surface + Drop>(
     let sizing = Sizing::new(any_length);
     let mut told = TallySink::new();
     let engine = run(alloc, mesh, steps, &mut told, &fields, &sizing)?;
-    summed_up(alloc, n, key, &told, &engine.mesh)
+    summary_bytes(alloc, n, key, &told, &engine.mesh)
 }
 
 // The summary of the job of `n` * `n` * `n` cubes that `key` picks.
@@ -66,10 +65,8 @@ fn summary(alloc: Global, n: u8, key: u32) -> Result<Vec<u8>, NoMemory>
 /// of it; want of memory leaves nothing.
 pub fn try_cubes<O: Outside>(alloc: Global, n: u8, key: u32, outside: &mut O) -> Result<(), Stop>
     requires { IsRow n }
-    ensures done { OnOk result ((O.around outside.new).world.holds.written
-        ≡ appended (O.around outside.old).world.holds.written (summary_of n key)) }
-    ensures stopped { OnErr result (AppendsPart (O.around outside.old).world.holds.written
-        (O.around outside.new).world.holds.written (summary_of n key)) }
+    ensures done { OnOk result (WritesAll O.around outside (summary_of n key)) }
+    ensures stopped { OnErr result (WritesPart O.around outside (summary_of n key)) }
     ensures quiet { StoresNothing (O.around outside.old) (O.around outside.new) result }
 {
     let text = summary(alloc, n, key)?;

@@ -85,7 +85,7 @@ fn put_end<S: Surface>(mesh: &S, into: &mut Vec<u8>) -> Result<(), NoMemory>
 }
 
 /// The summary of a job of cubes, by what a counting sink was given of its log, and by the mesh at its end.
-pub(crate) fn summed_up<S: Surface>(
+pub(crate) fn summary_bytes<S: Surface>(
     alloc: Global,
     n: u8,
     key: u32,

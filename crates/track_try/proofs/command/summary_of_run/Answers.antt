@@ -14,4 +14,4 @@ pub run-requires-clause-none_fits : goal.run-requires-clause-none_fits
 run-requires-clause-none_fits g c = other_steps c.args.n c.args.key c.args.steps.now c.requires.steps
 
 pub returns : goal.returns
-returns g c = summed c.args.n c.args.key _ _ _ _ c.summed_up.result c.requires.mesh c.requires.steps c.in_ok-engine.ensures c.summed_up.ensures
+returns g c = summed c.args.n c.args.key _ _ _ _ c.summary_bytes.result c.requires.mesh c.requires.steps c.in_ok-engine.ensures c.summary_bytes.ensures

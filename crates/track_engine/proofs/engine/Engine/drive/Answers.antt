@@ -7,8 +7,8 @@ use Rattle.track_engine.proofs.DriveLemmas.{asks_over}
 use Rattle.track_engine.proofs.Keeping.{ids_in}
 use Rattle.track_engine.proofs.engine.Engine.drive.Goals as goal
 
-pub all_driven-requires-clause-named : goal.all_driven-requires-clause-named
-all_driven-requires-clause-named g c =
+pub drive_all-requires-clause-named : goal.drive_all-requires-clause-named
+drive_all-requires-clause-named g c =
     let m = g.S.Surface.mesh c.args.self.now.mesh in
     let P : Shifts → Type 0 = λ asked. NameLive m asked in
     subst P (sym (c.as_slice.ensures ∙ c.in-Ok.ensures)) (ids_in m c.args.self.now.run.asked)

@@ -11,21 +11,21 @@ use Rattle.track_engine.proofs.Keeping.{kept_edited}
 use Rattle.track_engine.proofs.EditsTaken.{answers_are, edits_in_part, edits_rest, edits_left, edits_taken, edits_counted_is}
 use Rattle.track_engine.proofs.engine.Engine.edits.Goals as goal
 
-pub returns-in_err-only_given-clause-writes : goal.returns-in_err-only_given-clause-writes
-returns-in_err-only_given-clause-writes g c =
+pub returns-in_err-keep_asked-clause-writes : goal.returns-in_err-keep_asked-clause-writes
+returns-in_err-keep_asked-clause-writes g c =
     let p = err_from_is_err_and c.from_residual.result c.from_residual.ensures.1 in
     rw p.1 (inl refl)
 
-pub returns-in_err-only_given-clause-nothing_stored : goal.returns-in_err-only_given-clause-nothing_stored
-returns-in_err-only_given-clause-nothing_stored g c =
+pub returns-in_err-keep_asked-clause-nothing_stored : goal.returns-in_err-keep_asked-clause-nothing_stored
+returns-in_err-keep_asked-clause-nothing_stored g c =
     let p = err_from_is_err_and c.from_residual.result c.from_residual.ensures.1 in
     rw (p.1, p.2) (nothing_unremembered (g.O.Outside.around c.args.outside.now))
 
-pub returns-in_err-only_given-clause-marks : goal.returns-in_err-only_given-clause-marks
-returns-in_err-only_given-clause-marks g c = c.requires.ready.marks
+pub returns-in_err-keep_asked-clause-marks : goal.returns-in_err-keep_asked-clause-marks
+returns-in_err-keep_asked-clause-marks g c = c.requires.ready.marks
 
-pub returns-in_err-only_given-clause-begins : goal.returns-in_err-only_given-clause-begins
-returns-in_err-only_given-clause-begins g c = begins_itself (g.S.Surface.kept c.args.self.now.mesh)
+pub returns-in_err-keep_asked-clause-begins : goal.returns-in_err-keep_asked-clause-begins
+returns-in_err-keep_asked-clause-begins g c = begins_itself (g.S.Surface.kept c.args.self.now.mesh)
 
 pub returns-in_err-count-clause-writes : goal.returns-in_err-count-clause-writes
 returns-in_err-count-clause-writes g c =
@@ -54,8 +54,8 @@ returns-clause-writes g c =
     let s = state_of (g.S.Surface.mesh c.args.self.now.mesh) kept run in
     let fails = ap (groups_of (g.S.Surface.kept c.edits_to.new.mesh)) c.fail_if.ensures ∙ groups_failed_along g.S.Surface.beyond (g.S.Surface.kept c.edits_to.new.mesh) kept _ run.groups c.in_ok-count.ensures.takes.keeps.marks c.requires.ready.marks in
     edits_taken c.args.asked.now s c.is_open.result is_one _ (written_of (g.O.Outside.around c.args.outside.now)) (written_of (g.O.Outside.around c.edits_to.new.outside))
-    (edits_left c.args.asked.now s c.is_open.result is_one m (asked_in m c.only_given.new.asked) (groups_of (g.S.Surface.kept c.edits_to.new.mesh) c.fail_if.new.self) c.in_ok-count.count.refused
-    c.in_ok-count.ensures.mesh (edits_rest c.args.asked.now s c.is_open.result (c.is_open.ensures ∙ sym (is_open_of kept run.groups)) c.requires.ready.invariant.now.good m c.in_ok-count.ensures.mesh c.only_given.new.asked c.in_ok-only_given.ensures.same c.in_ok-only_given.ensures.given) c.in_ok-count.ensures.takes.refused fails)
+    (edits_left c.args.asked.now s c.is_open.result is_one m (asked_in m c.keep_asked.new.asked) (groups_of (g.S.Surface.kept c.edits_to.new.mesh) c.fail_if.new.self) c.in_ok-count.count.refused
+    c.in_ok-count.ensures.mesh (edits_rest c.args.asked.now s c.is_open.result (c.is_open.ensures ∙ sym (is_open_of kept run.groups)) c.requires.ready.invariant.now.good m c.in_ok-count.ensures.mesh c.keep_asked.new.asked c.in_ok-keep_asked.ensures.same c.in_ok-keep_asked.ensures.given) c.in_ok-count.ensures.takes.refused fails)
     c.in_ok-count.ensures.takes.said.1
 
 pub returns-clause-answers : goal.returns-clause-answers
@@ -89,8 +89,8 @@ returns-clause-ready g c =
     let run = c.args.self.now.run in
     let s = state_of (g.S.Surface.mesh c.args.self.now.mesh) kept run in
     let fails = ap (groups_of (g.S.Surface.kept c.edits_to.new.mesh)) c.fail_if.ensures ∙ groups_failed_along g.S.Surface.beyond (g.S.Surface.kept c.edits_to.new.mesh) kept _ run.groups c.in_ok-count.ensures.takes.keeps.marks c.requires.ready.marks in
-    let left = edits_left c.args.asked.now s c.is_open.result (c.is_open.ensures ∙ sym (is_open_of kept run.groups)) m (asked_in m c.only_given.new.asked) (groups_of (g.S.Surface.kept c.edits_to.new.mesh) c.fail_if.new.self) c.in_ok-count.count.refused
-    c.in_ok-count.ensures.mesh (edits_rest c.args.asked.now s c.is_open.result (c.is_open.ensures ∙ sym (is_open_of kept run.groups)) c.requires.ready.invariant.now.good m c.in_ok-count.ensures.mesh c.only_given.new.asked c.in_ok-only_given.ensures.same c.in_ok-only_given.ensures.given) c.in_ok-count.ensures.takes.refused fails in
+    let left = edits_left c.args.asked.now s c.is_open.result (c.is_open.ensures ∙ sym (is_open_of kept run.groups)) m (asked_in m c.keep_asked.new.asked) (groups_of (g.S.Surface.kept c.edits_to.new.mesh) c.fail_if.new.self) c.in_ok-count.count.refused
+    c.in_ok-count.ensures.mesh (edits_rest c.args.asked.now s c.is_open.result (c.is_open.ensures ∙ sym (is_open_of kept run.groups)) c.requires.ready.invariant.now.good m c.in_ok-count.ensures.mesh c.keep_asked.new.asked c.in_ok-keep_asked.ensures.same c.in_ok-keep_asked.ensures.given) c.in_ok-count.ensures.takes.refused fails in
     let P : State → Type 0 = λ t. IsRunInvariant t in
     record {
       invariant = subst P (sym left) (kept_edited c.args.asked.now s c.requires.ready.invariant);

@@ -16,23 +16,23 @@ use Rattle.track_engine.proofs.Keeping.{kept_next}
 use Rattle.track_engine.proofs.FitTaken.{fit_not_begun, fit_in_part, fit_rest, fit_taken}
 use Rattle.track_engine.proofs.engine.Engine.fit.Goals as goal
 
-pub returns-in_err-only_given-clause-fits : goal.returns-in_err-only_given-clause-fits
-returns-in_err-only_given-clause-fits g c =
+pub returns-in_err-keep_asked-clause-fits : goal.returns-in_err-keep_asked-clause-fits
+returns-in_err-keep_asked-clause-fits g c =
     let p = err_from_is_err_and c.from_residual.result c.from_residual.ensures.1 in
     let kept = g.S.Surface.kept c.args.self.now.mesh in
     let s = state_of (g.S.Surface.mesh c.args.self.now.mesh) kept c.args.self.now.run in
     rw p.1 (fit_not_begun (MayAnswer g.G.Fn c.args.sizing.now) s (is_open s.groups) refl s p.0 (written_of (g.O.Outside.around c.args.outside.now)))
 
-pub returns-in_err-only_given-clause-nothing_stored : goal.returns-in_err-only_given-clause-nothing_stored
-returns-in_err-only_given-clause-nothing_stored g c =
+pub returns-in_err-keep_asked-clause-nothing_stored : goal.returns-in_err-keep_asked-clause-nothing_stored
+returns-in_err-keep_asked-clause-nothing_stored g c =
     let p = err_from_is_err_and c.from_residual.result c.from_residual.ensures.1 in
     rw (p.1, p.2) (nothing_unremembered (g.O.Outside.around c.args.outside.now))
 
-pub returns-in_err-only_given-clause-marks : goal.returns-in_err-only_given-clause-marks
-returns-in_err-only_given-clause-marks g c = c.requires.ready.marks
+pub returns-in_err-keep_asked-clause-marks : goal.returns-in_err-keep_asked-clause-marks
+returns-in_err-keep_asked-clause-marks g c = c.requires.ready.marks
 
-pub returns-in_err-only_given-clause-begins : goal.returns-in_err-only_given-clause-begins
-returns-in_err-only_given-clause-begins g c = begins_itself (g.S.Surface.kept c.args.self.now.mesh)
+pub returns-in_err-keep_asked-clause-begins : goal.returns-in_err-keep_asked-clause-begins
+returns-in_err-keep_asked-clause-begins g c = begins_itself (g.S.Surface.kept c.args.self.now.mesh)
 
 pub returns-in_err-count-clause-fits : goal.returns-in_err-count-clause-fits
 returns-in_err-count-clause-fits g c =
@@ -62,8 +62,8 @@ returns-clause-fits g c =
     let is_one = c.is_open.ensures ∙ sym (is_open_of kept run.groups) in
     let old = written_of (g.O.Outside.around c.args.outside.now) in
     let new = written_of (g.O.Outside.around c.fit_to.new.outside) in
-    let rest = fit_rest (MayAnswer g.G.Fn c.args.sizing.now) s c.is_open.result is_one c.requires.ready.invariant.now.good m c.in_ok-count.count old new c.in_ok-count.ensures.fits c.only_given.new.asked c.in_ok-only_given.ensures.same c.in_ok-only_given.ensures.given in
-    fit_taken (MayAnswer g.G.Fn c.args.sizing.now) s c.is_open.result is_one m (asked_in m c.only_given.new.asked)
+    let rest = fit_rest (MayAnswer g.G.Fn c.args.sizing.now) s c.is_open.result is_one c.requires.ready.invariant.now.good m c.in_ok-count.count old new c.in_ok-count.ensures.fits c.keep_asked.new.asked c.in_ok-keep_asked.ensures.same c.in_ok-keep_asked.ensures.given in
+    fit_taken (MayAnswer g.G.Fn c.args.sizing.now) s c.is_open.result is_one m (asked_in m c.keep_asked.new.asked)
     (groups_of (g.S.Surface.kept c.fit_to.new.mesh) c.fail_if.new.self) c.in_ok-count.count old new c.in_ok-count.ensures.fits rest fails
 
 pub returns-clause-nothing_stored : goal.returns-clause-nothing_stored

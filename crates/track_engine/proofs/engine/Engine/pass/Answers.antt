@@ -14,23 +14,23 @@ use Rattle.track_engine.proofs.Keeping.{kept_next}
 use Rattle.track_engine.proofs.PassTaken.{pass_not_begun, pass_in_part, pass_rest, pass_taken, pass_told_is}
 use Rattle.track_engine.proofs.engine.Engine.pass.Goals as goal
 
-pub returns-in_err-only_given-clause-passes : goal.returns-in_err-only_given-clause-passes
-returns-in_err-only_given-clause-passes g c =
+pub returns-in_err-keep_asked-clause-passes : goal.returns-in_err-keep_asked-clause-passes
+returns-in_err-keep_asked-clause-passes g c =
     let p = err_from_is_err_and c.from_residual.result c.from_residual.ensures.1 in
     let kept = g.S.Surface.kept c.args.self.now.mesh in
     let s = state_of (g.S.Surface.mesh c.args.self.now.mesh) kept c.args.self.now.run in
     rw p.1 (pass_not_begun c.args.kind s (is_open s.groups) refl s p.0 (written_of (g.O.Outside.around c.args.outside.now)))
 
-pub returns-in_err-only_given-clause-nothing_stored : goal.returns-in_err-only_given-clause-nothing_stored
-returns-in_err-only_given-clause-nothing_stored g c =
+pub returns-in_err-keep_asked-clause-nothing_stored : goal.returns-in_err-keep_asked-clause-nothing_stored
+returns-in_err-keep_asked-clause-nothing_stored g c =
     let p = err_from_is_err_and c.from_residual.result c.from_residual.ensures.1 in
     rw (p.1, p.2) (nothing_unremembered (g.O.Outside.around c.args.outside.now))
 
-pub returns-in_err-only_given-clause-marks : goal.returns-in_err-only_given-clause-marks
-returns-in_err-only_given-clause-marks g c = c.requires.ready.marks
+pub returns-in_err-keep_asked-clause-marks : goal.returns-in_err-keep_asked-clause-marks
+returns-in_err-keep_asked-clause-marks g c = c.requires.ready.marks
 
-pub returns-in_err-only_given-clause-begins : goal.returns-in_err-only_given-clause-begins
-returns-in_err-only_given-clause-begins g c = begins_itself (g.S.Surface.kept c.args.self.now.mesh)
+pub returns-in_err-keep_asked-clause-begins : goal.returns-in_err-keep_asked-clause-begins
+returns-in_err-keep_asked-clause-begins g c = begins_itself (g.S.Surface.kept c.args.self.now.mesh)
 
 pub returns-in_err-count-clause-passes : goal.returns-in_err-count-clause-passes
 returns-in_err-count-clause-passes g c =
@@ -58,8 +58,8 @@ returns-clause-passes g c =
     let fails = ap (groups_of (g.S.Surface.kept c.pass_to.new.mesh)) c.fail_if.ensures ∙ groups_failed_along g.S.Surface.beyond (g.S.Surface.kept c.pass_to.new.mesh) kept _ run.groups c.in_ok-count.ensures.takes.keeps.marks c.requires.ready.marks in
     let s = state_of (g.S.Surface.mesh c.args.self.now.mesh) kept run in
     let is_one = c.is_open.ensures ∙ sym (is_open_of kept run.groups) in
-    let rest = pass_rest c.args.kind s c.is_open.result is_one c.requires.ready.invariant.now.good m c.in_ok-count.ensures.mesh c.only_given.new.asked c.in_ok-only_given.ensures.same c.in_ok-only_given.ensures.given in
-    pass_taken c.args.kind s c.is_open.result is_one m (asked_in m c.only_given.new.asked)
+    let rest = pass_rest c.args.kind s c.is_open.result is_one c.requires.ready.invariant.now.good m c.in_ok-count.ensures.mesh c.keep_asked.new.asked c.in_ok-keep_asked.ensures.same c.in_ok-keep_asked.ensures.given in
+    pass_taken c.args.kind s c.is_open.result is_one m (asked_in m c.keep_asked.new.asked)
     (groups_of (g.S.Surface.kept c.pass_to.new.mesh) c.fail_if.new.self) c.in_ok-count.count.refused (written_of (g.O.Outside.around c.args.outside.now)) (written_of (g.O.Outside.around c.pass_to.new.outside))
     c.in_ok-count.ensures.mesh rest c.in_ok-count.ensures.takes.refused fails c.in_ok-count.ensures.takes.said.1
 

@@ -6,7 +6,7 @@ use Rattle.track_engine.specs.State.{asked_in}
 use Rattle.track_engine.proofs.AskedLemmas.{given_below, given_whole, whole_again}
 use Rattle.track_engine.proofs.AskedLists.{Rises}
 use Rattle.track_engine.proofs.Keeping.{ids_in}
-use Rattle.track_engine.proofs.shift_sums.only_given.Goals as goal
+use Rattle.track_engine.proofs.shift_sums.keep_asked.Goals as goal
 
 pub returns-then-are_below-clause-given : goal.returns-then-are_below-clause-given
 returns-then-are_below-clause-given g c =

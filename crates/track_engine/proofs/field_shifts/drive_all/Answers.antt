@@ -3,8 +3,8 @@ use Rattle.grid_base.specs.Points.{no_shift}
 use Rattle.mesh_field.specs.Stored.{MayAnswer}
 use Rattle.pair_scan.proofs.Paths.{ids_sorted}
 use Rattle.track_engine.proofs.DriveLemmas.{driving_none, driven_within, driven_beyond, driven_all, driven_over}
-use Rattle.track_engine.proofs.field_shifts.all_driven.Goals as goal
-use Rattle.track_engine.proofs.field_shifts.all_driven.Goals.{in-Some+in_ok-push-in-Some, in-None}
+use Rattle.track_engine.proofs.field_shifts.drive_all.Goals as goal
+use Rattle.track_engine.proofs.field_shifts.drive_all.Goals.{in-Some+in_ok-push-in-Some, in-None}
 
 pub loop-s-init : goal.loop-s-init
 loop-s-init g c = driving_none _ _ no_shift _ c.new-shifts.ensures

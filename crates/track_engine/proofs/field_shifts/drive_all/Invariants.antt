@@ -1,7 +1,7 @@
 use Rattle.std.proofs.Common.{take}
 use Rattle.mesh_field.specs.Stored.{MayAnswer}
 use Rattle.track_engine.proofs.DriveLemmas.{Driving}
-use Rattle.track_engine.proofs.field_shifts.all_driven.Given as goal
+use Rattle.track_engine.proofs.field_shifts.drive_all.Given as goal
 
 -- the vertices so far were asked
 abbrev pub invariant-loop-s : goal.invariant-loop-s
