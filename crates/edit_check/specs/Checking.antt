@@ -1,5 +1,5 @@
 -- What a check is of, and what it answers, edge by edge.
-use Rattle.std.specs.Prelude.{ℕ, not, List}
+use Rattle.std.specs.Prelude.{◌≡◌, ℕ, not, List, IsNone}
 use Rattle.std.specs.List.{find}
 use Rattle.std.specs.Option.{option_map}
 use Rattle.std.proofs.Common.{Option}
@@ -7,9 +7,11 @@ use Rattle.grid_decided.specs.Decided.{meets_exactly}
 use Rattle.mesh_base.specs.declared.ids.PairName.{PairName}
 use Rattle.mesh_base.specs.Mesh.{Mesh}
 use Rattle.mesh_base.specs.Pairs.{Pair}
+use Rattle.mesh_base.specs.Placements.{rest_positions, IsClearMesh}
+use Rattle.mesh_base.specs.Failing.{first_meeting}
 use Rattle.edit_base.specs.declared.Move.{Move}
 use Rattle.edit_base.specs.declared.Touch.{Touch}
-use Rattle.edit_base.specs.Scaffold.{Scaffold, is_as_required}
+use Rattle.edit_base.specs.Scaffold.{Scaffold, is_as_required, first_failing, motion_by, IsClearBut}
 
 -- the mesh, with the moves, and the vertices of which two may touch
 abbrev pub scaffold_by : Mesh → List Move → Touch → List ℕ → Scaffold
@@ -20,3 +22,16 @@ scaffold_by m moves touch together =
 abbrev pub first_of : Scaffold → ℕ → List Pair → Option PairName
 first_of s depth ps =
     option_map (λ p. p.name) (find (λ p. not (is_as_required meets_exactly s depth p)) ps)
+
+-- it is the first pair of the mesh that is not as required in the motion, tested to this depth
+abbrev pub IsFirstFailing : Mesh → List Move → Touch → List ℕ → ℕ → Option PairName → Type 0
+IsFirstFailing m moves touch together depth found =
+    found ≡ first_failing meets_exactly (scaffold_by m moves touch together) depth
+
+-- where there is none, no pair meets at any fraction, but where two may touch
+abbrev pub IsClearIfNone : Mesh → List Move → Touch → Option PairName → Type 0
+IsClearIfNone m moves touch found = IsNone found → IsClearBut touch m (motion_by m moves)
+
+-- it is the first pair of the mesh that meets where its vertices stand
+abbrev pub IsFirstMeeting : Mesh → Option PairName → Type 0
+IsFirstMeeting m found = found ≡ first_meeting meets_exactly m (rest_positions m)

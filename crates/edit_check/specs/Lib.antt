@@ -12,3 +12,4 @@ pub mod Neighbourhood
 pub mod Searching
 pub mod Looking
 pub mod FacePairs
+pub mod Laws

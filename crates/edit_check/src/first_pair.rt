@@ -1,13 +1,12 @@
 //! The first pair that is not as required.
-ghost use Rattle.std.specs.Prelude.{◌≡◌, ◌≤◌, [], Some, IfOk, IsNone};
+ghost use Rattle.std.specs.Prelude.{◌≡◌, ◌≤◌, [], Some, IfOk};
 ghost use Rattle.std.specs.List.{All};
 ghost use Rattle.grid_decided.specs.Decided.{meets_exactly};
-ghost use Rattle.mesh_base.specs.Placements.{rest_positions, IsClearMesh};
-ghost use Rattle.mesh_base.specs.Failing.{first_meeting};
-ghost use Rattle.edit_base.specs.Scaffold.{first_failing, motion_by, IsClearBut};
+ghost use Rattle.mesh_base.specs.Placements.{IsClearMesh};
+ghost use Rattle.edit_base.specs.Scaffold.{first_failing};
 ghost use Rattle.edit_check.specs.Untouched.{IsClearWhereUntouched, MoveFits};
 ghost use Rattle.edit_check.specs.Reach.{ReachesTouched};
-ghost use Rattle.edit_check.specs.Checking.{scaffold_by};
+ghost use Rattle.edit_check.specs.Checking.{scaffold_by, IsFirstFailing, IsClearIfNone, IsFirstMeeting};
 
 use crate::face_pairs::none_is_seen_to_fail;
 use crate::nearby::faces_near;
@@ -77,11 +76,10 @@ pub fn check<S: Surface>(
     requires depth { depth ≤ DEPTH_MAX }
     requires fits { All MoveFits moves.now }
     requires clear { IsClearWhereUntouched (S.mesh mesh.now) moves.now fresh_from }
-    ensures first { IfOk result (λ found. found ≡ first_failing meets_exactly
-        (scaffold_by (S.mesh mesh.now) moves.now touch together.now) depth) }
+    ensures first { IfOk result
+        (IsFirstFailing (S.mesh mesh.now) moves.now touch together.now depth) }
     // None: the motion is clear.
-    ensures clear { IfOk result (λ found. IsNone found →
-        IsClearBut touch (S.mesh mesh.now) (motion_by (S.mesh mesh.now) moves.now)) }
+    ensures clear { IfOk result (IsClearIfNone (S.mesh mesh.now) moves.now touch) }
 {
     let terms = Terms {
         touch,
@@ -104,8 +102,7 @@ pub fn check_still<S: Surface>(
     fresh_from: u32,
 ) -> Result<Option<PairName>, NoMemory>
     requires { IsClearWhereUntouched (S.mesh mesh.now) [] fresh_from }
-    ensures first { IfOk result (λ found. found ≡
-        first_meeting meets_exactly (S.mesh mesh.now) (rest_positions (S.mesh mesh.now))) }
+    ensures first { IfOk result (IsFirstMeeting (S.mesh mesh.now)) }
     // None: the mesh is clear.
     ensures clear { IfOk result (λ found. IsNone found → IsClearMesh (S.mesh mesh.now)) }
 {
