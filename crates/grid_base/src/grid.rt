@@ -5,7 +5,7 @@ ghost use Rattle.grid_base.specs.Components.{FitWithin};
 use crate::{BOX, SHIFT_MAX, Wide};
 
 /// A point of the grid, inside the box.
-#[derive(Clone, Copy, Debug, PartialEq, Eq, PartialOrd, Ord)]
+#[derive(Clone, Copy, Debug, PartialEq, Eq)]
 pub struct Point {
     pub x: i32,
     pub y: i32,
@@ -64,7 +64,7 @@ fn twice(a: i32) -> i128
 }
 
 /// A shift of a point, in grid units.
-#[derive(Clone, Copy, Debug, PartialEq, Eq, PartialOrd, Ord)]
+#[derive(Clone, Copy, Debug, PartialEq, Eq)]
 pub struct Shift {
     pub x: i32,
     pub y: i32,

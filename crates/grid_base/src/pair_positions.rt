@@ -2,7 +2,7 @@ use crate::Wide;
 
 /// The positions of an edge from `a` to `b`, and of a triangle with the corners `c`, `d` and `e`.
 // It has no ghost field, as `Wide` has none.
-#[derive(Clone, Copy, Debug, PartialEq, Eq)]
+#[derive(Clone, Copy)]
 pub struct Positions {
     pub a: Wide,
     pub b: Wide,

@@ -6,7 +6,7 @@ use grid_base::{
 };
 
 /// How many vertices and how many faces of a mesh may be live at once.
-#[derive(Clone, Copy, Debug, PartialEq, Eq)]
+#[derive(Clone, Copy)]
 pub struct Limits {
     pub vertices: u32,
     pub faces: u32,
