@@ -19,7 +19,7 @@ use pair_paths::{MovingEdge, MovingFace};
 
 /// An edge, its box where it begins, and the directions of slabs.
 #[derive(Clone, Copy)]
-pub(crate) struct Asked<'a> {
+pub(crate) struct SlabQuery<'a> {
     pub(crate) edge: &'a MovingEdge,
     pub(crate) at: SmallBox,
     pub(crate) across: &'a Across,
@@ -109,7 +109,7 @@ fn is_across_from(e: &Extent, a: Wide, b: Wide) -> bool
     is_beside(across_z(way), e, a, b)
 }
 
-impl<'a> Asked<'a> {
+impl<'a> SlabQuery<'a> {
     // Whether one of the two directions of the slabs parts the edge from what has them.
     fn is_beyond(&self, s: &Slabs) -> bool
         ensures { IsTrue result → (f : MovingFace) → HasFace self.now.across.now s.now f

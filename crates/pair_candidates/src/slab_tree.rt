@@ -8,7 +8,7 @@ ghost use Rattle.pair_candidates.specs.declared.across.Across.{Across};
 ghost use Rattle.pair_candidates.specs.Slabs.{HasPlace, HasFaceAt, IsSound, IsTreeOf, HasPlaceIf, IsSoundIf, AreFoundIn, AreFoundInIf};
 
 use crate::across::Across;
-use crate::separation::Asked;
+use crate::separation::SlabQuery;
 use crate::slabs::Slabs;
 use box_tree::LabelledBox;
 use grid_base::NoMemory;
@@ -24,7 +24,7 @@ pub(crate) enum SlabTree {
 
 /// Faces, their boxes in a frame, and two directions.
 #[derive(Drop)]
-pub(crate) struct Growing<'a> {
+pub(crate) struct SlabBuilder<'a> {
     pub(crate) faces: &'a [MovingFace],
     pub(crate) boxes: &'a [LabelledBox],
     pub(crate) frame: &'a Frame,
@@ -77,7 +77,7 @@ fn joined_if(
 }
 
 // The face at a place, where there is one.
-fn one_of(g: &Growing, i: u64) -> Option<SlabTree>
+fn one_of(g: &SlabBuilder, i: u64) -> Option<SlabTree>
     requires { AreBoxesOf (IsFaceBoxIn g.now.frame.now) g.now.faces.now g.now.boxes.now }
     ensures { IsTreeOf g.now.across.now g.now.faces.now (i ∷ []) result }
 {
@@ -91,7 +91,11 @@ fn one_of(g: &Growing, i: u64) -> Option<SlabTree>
 }
 
 /// The tree of the faces at these places.
-pub(crate) fn grow(alloc: Global, g: &Growing, places: &[u64]) -> Result<Option<SlabTree>, NoMemory>
+pub(crate) fn grow(
+    alloc: Global,
+    g: &SlabBuilder,
+    places: &[u64],
+) -> Result<Option<SlabTree>, NoMemory>
     requires { AreBoxesOf (IsFaceBoxIn g.now.frame.now) g.now.faces.now g.now.boxes.now }
     ensures { IfOk result (IsTreeOf g.now.across.now g.now.faces.now places.now) }
 {
@@ -108,7 +112,7 @@ pub(crate) fn grow(alloc: Global, g: &Growing, places: &[u64]) -> Result<Option<
 }
 
 /// Adds the places of the faces that may not be left out of those of the edge.
-pub(crate) fn find(tree: &SlabTree, q: &Asked, into: &mut Vec<u64>) -> Result<(), NoMemory>
+pub(crate) fn find(tree: &SlabTree, q: &SlabQuery, into: &mut Vec<u64>) -> Result<(), NoMemory>
     ensures kept { OnOk result ((i : ℕ) → has i into.old.items ≡ true → has i into.new.items ≡ true) }
     ensures found { OnOk result ((faces : List MovingFace) → IsSound q.now.across.now faces tree.now
         → AreFoundIn faces q.now.edge.now tree.now into.new.items) }
@@ -133,7 +137,7 @@ pub(crate) fn find(tree: &SlabTree, q: &Asked, into: &mut Vec<u64>) -> Result<()
 /// The same, where there is a tree.
 pub(crate) fn find_if(
     tree: &Option<SlabTree>,
-    q: &Asked,
+    q: &SlabQuery,
     into: &mut Vec<u64>,
 ) -> Result<(), NoMemory>
     ensures { OnOk result ((faces : List MovingFace) → IsSoundIf q.now.across.now faces tree.now

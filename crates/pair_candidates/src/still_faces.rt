@@ -10,8 +10,8 @@ ghost use Rattle.pair_paths.specs.declared.MovingFace.{MovingFace};
 ghost use Rattle.pair_candidates.specs.Slabs.{GoesWith, EdgeGoesWith, FaceGoesWith, AreStill, AreFound};
 
 use crate::across::Across;
-use crate::separation::Asked;
-use crate::slab_tree::{Growing, SlabTree, find_if, grow};
+use crate::separation::SlabQuery;
+use crate::slab_tree::{SlabBuilder, SlabTree, find_if, grow};
 use box_tree::{SmallBox, places_along_curve};
 use grid_base::narrow::SPAN_MAX;
 use grid_base::{Extent, NoMemory, Wide};
@@ -84,13 +84,13 @@ impl StillFaces {
         let across = Across::of(way);
         let boxes = boxes_in(alloc, faces, frame)?;
         let order = places_along_curve(alloc, &boxes)?;
-        let growing = Growing {
+        let builder = SlabBuilder {
             faces,
             boxes: &boxes,
             frame,
             across: &across,
         };
-        let tree = grow(alloc, &growing, &order)?;
+        let tree = grow(alloc, &builder, &order)?;
         Ok(StillFaces { across, tree })
     }
 
@@ -102,12 +102,12 @@ impl StillFaces {
     {
         into.clear();
         let at = Extent::around(e.first.start.wide(), e.second.start.wide());
-        let asked = Asked {
+        let query = SlabQuery {
             edge: e,
             at: SmallBox::of(&at),
             across: &self.across,
         };
-        find_if(&self.tree, &asked, into)?;
+        find_if(&self.tree, &query, into)?;
         rising(into);
         Ok(())
     }

@@ -1,7 +1,7 @@
 use Rattle.std.proofs.Common.{inr, refl}
 use Rattle.pair_paths.specs.Pairing.{starts}
 use Rattle.pair_candidates.proofs.Beyond.{beyond_parts}
-use Rattle.pair_candidates.proofs.separation.Asked.is_beyond.Goals as goal
+use Rattle.pair_candidates.proofs.separation.SlabQuery.is_beyond.Goals as goal
 
 pub returns-then-are_beyond : goal.returns-then-are_beyond
 returns-then-are_beyond c =

@@ -1,6 +1,6 @@
 use Rattle.std.proofs.Common.{inr, sym}
 use Rattle.pair_candidates.proofs.Beyond.{boxes_part}
-use Rattle.pair_candidates.proofs.separation.Asked.is_outside.Goals as goal
+use Rattle.pair_candidates.proofs.separation.SlabQuery.is_outside.Goals as goal
 
 pub returns-then-not-overlaps : goal.returns-then-not-overlaps
 returns-then-not-overlaps c =
