@@ -35,7 +35,7 @@ use Rattle.track_held.specs.declared.new_tracker.MakeFault.{MakeFault}
 use Rattle.track_held.specs.declared.numbered_tracker.NumberedFault.{NumberedFault}
 use Rattle.track_held.specs.declared.given_edits.GivenEdit.{GivenEdit}
 use Rattle.track_held.specs.declared.given_edits.ToldAnswer.{ToldAnswer}
-use Rattle.track_held.specs.Asking.{CanBeAsked, asking, CanAllBeAsked, asking_all}
+use Rattle.track_held.specs.Asking.{CanBeAsked, shift_directive, CanAllBeAsked, shift_all_directive}
 use Rattle.track_held.specs.Editing.{edits_asked, answer_told}
 use Rattle.track_held.specs.Given.{given_mesh, make_fault}
 use Rattle.track_held.specs.Held.{engine_in, keeps_lines, lines_in, log_in, goes_on}
@@ -286,14 +286,14 @@ abbrev pub HolderHasShifted : NamedPoint → Option Tracker → Option Tracker �
     ℕ → Type 0
 HolderHasShifted row old new before after code =
     (¬ CanBeAsked row → HolderIsBeyond old new before after code)
-    × (CanBeAsked row → HolderHasDone (asking row) old new before after code)
+    × (CanBeAsked row → HolderHasDone (shift_directive row) old new before after code)
 
 -- one shift of all vertices: the same
 abbrev pub HolderHasShiftedAll : NamedPoint → Option Tracker → Option Tracker
     → TopoFault → TopoFault → ℕ → Type 0
 HolderHasShiftedAll row old new before after code =
     (¬ CanAllBeAsked row → HolderIsBeyond old new before after code)
-    × (CanAllBeAsked row → HolderHasDone (asking_all row) old new before after code)
+    × (CanAllBeAsked row → HolderHasDone (shift_all_directive row) old new before after code)
 
 -- Each shift in order, up to the first that cannot be asked or is
 -- not done, whose code is the answer.
@@ -301,9 +301,10 @@ abbrev pub HasShiftedEach : List NamedPoint → Tracker → Tracker → TopoFaul
 HasShiftedEach [] s t before after code = (code ≡ 0) × (t ≡ s) × (after ≡ before)
 HasShiftedEach (row ∷ rows) s t before after code =
     (¬ CanBeAsked row × (code ≡ 3) × (t ≡ s) × (after ≡ before))
-    ⊎ (CanBeAsked row × (code ≢ 0) × HasDone (asking row) s t before after code)
+    ⊎ (CanBeAsked row × (code ≢ 0) × HasDone (shift_directive row) s t before after code)
     ⊎ (CanBeAsked row × ((mid : Tracker) × (between : TopoFault)
-    × HasDone (asking row) s mid before between 0 × HasShiftedEach rows mid t between after code))
+    × HasDone (shift_directive row) s mid before between 0
+    × HasShiftedEach rows mid t between after code))
 
 -- the same of a holder
 abbrev pub HolderHasShiftedEach : List NamedPoint → Option Tracker → Option Tracker → TopoFault →

@@ -21,7 +21,7 @@ use mesh_sizing::Band;
 use std::alloc::Global;
 use step_choose::Settings;
 use step_text::Directive;
-use track_held::{BandTable, NamedPoint, asking, asking_all};
+use track_held::{BandTable, NamedPoint, shift_all_directive, shift_directive};
 
 /// Does a directive with the tracker of a handle.
 pub(crate) fn advance(
@@ -53,7 +53,7 @@ pub(crate) fn shift_one(
     ensures { HolderHasShifted row.now topo.old.owned.value topo.new.owned.value
         fault.old fault.new result }
 {
-    match asking(row) {
+    match shift_directive(row) {
         Some(what) => advance(alloc, topo, &what, fault),
         None => RANGE,
     }
@@ -69,7 +69,7 @@ fn shift_all(
     ensures { HasShiftedEach rows.now tracker.old tracker.new fault.old fault.new result }
 {
     for row in rows {
-        let Some(what) = asking(row) else {
+        let Some(what) = shift_directive(row) else {
             return RANGE;
         };
         let code = tracker.advance(alloc, &what, fault);
@@ -108,7 +108,7 @@ pub(crate) fn shift_every(
     ensures { HolderHasShiftedAll row.now topo.old.owned.value topo.new.owned.value
         fault.old fault.new result }
 {
-    match asking_all(row) {
+    match shift_all_directive(row) {
         Some(what) => advance(alloc, topo, &what, fault),
         None => RANGE,
     }

@@ -25,16 +25,16 @@ pub record CanBeAsked (row : NamedPoint) : Type 0 where
   pub vertex : IsFrom 1 ID_MAX row.id
 
 -- the shift is added to what is asked of the vertex
-abbrev pub asking : NamedPoint → Directive
-asking row = ShiftOne row.id (shift_by (record { x = row.x; y = row.y; z = row.z }))
+abbrev pub shift_directive : NamedPoint → Directive
+shift_directive row = ShiftOne row.id (shift_by (record { x = row.x; y = row.y; z = row.z }))
 
 -- no component is above the limit
 abbrev pub CanAllBeAsked : NamedPoint → Type 0
 CanAllBeAsked row = FitWithin SHIFT_MAX row.x row.y row.z
 
 -- the shift is added to what is asked of each vertex
-abbrev pub asking_all : NamedPoint → Directive
-asking_all row = ShiftAll (shift_by (record { x = row.x; y = row.y; z = row.z }))
+abbrev pub shift_all_directive : NamedPoint → Directive
+shift_all_directive row = ShiftAll (shift_by (record { x = row.x; y = row.y; z = row.z }))
 
 -- a directive that asks neither a stored field nor a sizing
 abbrev pub AsksNothing : Directive → Type 0

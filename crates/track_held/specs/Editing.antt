@@ -98,8 +98,8 @@ first_copy None = 0
 first_copy (Some copy) = copy.w
 
 -- a count, or the greatest number that is told
-abbrev pub capped : ℕ → ℕ
-capped count = if nat_lt count 4294967295 then count else 4294967295
+abbrev pub capped_number : ℕ → ℕ
+capped_number count = if nat_lt count 4294967295 then count else 4294967295
 
 -- A done edit: of a split the new vertex, and where it stands; of a collapse where the vertex that
 -- is left stands; of a zip which of the four turns; of a pinch the first copy, how many there are,
@@ -110,7 +110,7 @@ change_told (change.Flip a b) = done_with 0
 change_told (change.Collapse a b at) = done_at a 0 at
 change_told (change.Zip a b e f turn) = done_with turn
 change_told (change.Pinch v at copies) =
-    done_at (first_copy (slice_get copies 0)) (capped (length copies)) at
+    done_at (first_copy (slice_get copies 0)) (capped_number (length copies)) at
 
 -- a reason, with the pair that is its place
 abbrev pub reason_at : ℕ → ℕ → ℕ → ℕ → ToldAnswer

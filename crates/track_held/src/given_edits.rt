@@ -1,7 +1,7 @@
 //! Edits as a caller in C asks for them, and what came of each.
 ghost use Rattle.std.specs.Prelude.{◌≡◌, ◌≤◌, ◌++◌, length, drop, map, slice_get, IfOk};
 ghost use Rattle.edit_base.specs.declared.Asked.TheVariants.{Split, Flip, Collapse};
-ghost use Rattle.track_held.specs.Editing.{is_id, ends, edge_edit, zip_edit, pinch_edit, edit_asked, edits_asked, done_at, done_with, first_copy, capped, change_told, reason_at, why_told, answer_told, RowsAskInRange, RowsAskEach};
+ghost use Rattle.track_held.specs.Editing.{is_id, ends, edge_edit, zip_edit, pinch_edit, edit_asked, edits_asked, done_at, done_with, first_copy, capped_number, change_told, reason_at, why_told, answer_told, RowsAskInRange, RowsAskEach};
 
 use edit_base::{Asked, Change, Copies, Edit, Why};
 use grid_base::{ID_MAX, Items, NoMemory, Point};
@@ -234,8 +234,8 @@ pub(crate) fn why_told(why: Why) -> ToldAnswer
 }
 
 // A count, or the greatest number that is told.
-fn capped(count: usize) -> u32
-    ensures { result ≡ capped count }
+fn capped_number(count: usize) -> u32
+    ensures { result ≡ capped_number count }
 {
     if count < u32::MAX as usize {
         count as u32
@@ -261,7 +261,7 @@ fn change_told(change: &Change) -> ToldAnswer
         } => done_with(u32::from(*turn)),
         Change::Pinch { v: _, at, copies } => done_at(
             first_copy(copies),
-            capped(copies.len()),
+            capped_number(copies.len()),
             *at,
         ),
     }

@@ -20,7 +20,7 @@ mod queries;
 mod renumbering;
 mod steps;
 
-pub use asked::{asking, asking_all};
+pub use asked::{shift_all_directive, shift_directive};
 pub use band_table::{
     BandTable, Cells, GivenBand, TableFault, cells_have_their_bands, ends_are_nearest,
 };
