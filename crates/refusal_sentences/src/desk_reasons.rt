@@ -1,5 +1,4 @@
 // Why a file could not be had or stored.
-use crate::sentence::{Sentence, Value, told};
 use mesh_base::Scale;
 use outside_io::{Step, Trouble};
 use std::alloc::{AllocError, Global};
@@ -19,58 +18,43 @@ fn doing(step: Step) -> &'static str {
 
 /// Says which file could not be read or stored, and why.
 pub fn trouble_reason(alloc: Global, trouble: Option<&Trouble>) -> Result<String, AllocError> {
-    let said = match trouble {
-        None => Sentence::of("a file could not be read or stored"),
-        Some(trouble) => Sentence::of_three(
-            "{name} could not {what} ({error})",
-            Value::Text(trouble.name.as_str()),
-            Value::Text(doing(trouble.step)),
-            Value::Error(trouble.error),
-        ),
-    };
-    told(alloc, &[said])
+    match trouble {
+        None => String::from_str(alloc, "a file could not be read or stored"),
+        Some(trouble) => {
+            let name = trouble.name.as_str();
+            let what = doing(trouble.step);
+            let error = trouble.error;
+            format!(in alloc; "{name} could not {what} ({error})")
+        }
+    }
 }
 
 /// Says that standard output could not be written, and why, where that is known.
 pub fn output_reason(alloc: Global, error: Option<Error>) -> Result<String, AllocError> {
-    let said = match error {
-        None => Sentence::of("standard output could not be written"),
-        Some(error) => Sentence::of_one(
-            "standard output could not be written ({error})",
-            Value::Error(error),
-        ),
-    };
-    told(alloc, &[said])
+    match error {
+        None => String::from_str(alloc, "standard output could not be written"),
+        Some(error) => format!(in alloc; "standard output could not be written ({error})"),
+    }
 }
 
 /// Says that there is no file of a name.
 pub fn missing_reason(alloc: Global, name: &str) -> Result<String, AllocError> {
-    let said = Sentence::of_one("there is no file {name}", Value::Text(name));
-    told(alloc, &[said])
+    format!(in alloc; "there is no file {name}")
 }
 
 /// Says that a file is too long for a job of a scale, and with which option it may be longer, if with one.
 pub fn long_reason(alloc: Global, scale: Scale, name: &str) -> Result<String, AllocError> {
     let (most, large) = (scale.text_most(), Scale::Large.text_most());
-    let text = if most < large {
-        "{name} is too long: a file may have up to {most} bytes, and with `--large` up to {large}"
-    } else {
-        "{name} is too long: a file may have up to {most} bytes"
-    };
-    let (most, large) = (Value::Number(most as u64), Value::Number(large as u64));
-    told(
-        alloc,
-        &[Sentence::of_three(text, Value::Text(name), most, large)],
-    )
+    if most < large {
+        return format!(in alloc;
+            "{name} is too long: a file may have up to {most} bytes, and with `--large` up to {large}"
+        );
+    }
+    format!(in alloc; "{name} is too long: a file may have up to {most} bytes")
 }
 
 /// Says that the file of a card is too long.
 pub fn long_card_reason(alloc: Global, name: &str) -> Result<String, AllocError> {
-    let most = Value::Number(Scale::Standard.text_most() as u64);
-    let said = Sentence::of_two(
-        "{name} is too long: a file may have up to {most} bytes",
-        Value::Text(name),
-        most,
-    );
-    told(alloc, &[said])
+    let most = Scale::Standard.text_most();
+    format!(in alloc; "{name} is too long: a file may have up to {most} bytes")
 }

@@ -26,78 +26,87 @@ fn number_of(word: &[u8]) -> u64 {
     number
 }
 
-// What of an OFF or a PLY text stands before its faces: the rest of its head, and a row for each point.
-#[derive(Clone, Copy)]
-struct Ahead {
-    has_head: bool,
-    points: u64,
+// How many triangles a polygon of so many corners is.
+fn triangles(corners: u64) -> u64 {
+    corners.saturating_sub(2)
 }
 
-// Takes a line of the head. That of an OFF text is the word `OFF` and a row of counts; that of a PLY text ends with `end_header`.
-fn behind_head(ahead: Ahead, format: Format, line: &[u8]) -> Ahead {
-    let first = word_at(line, 0);
-    let is_off = matches!(format, Format::Off);
-    if is_off && !first.is_empty() && first != b"OFF".as_slice() {
-        return Ahead {
-            has_head: false,
-            points: number_of(first),
-        };
+// The line of the face of a number, in an OBJ text; 0 where there is none.
+fn line_in_obj(bytes: &[u8], face: u32) -> u32
+    requires { length bytes.now ≤ TEXT_MAX }
+{
+    let mut count: u64 = 0;
+    for line in Lines::new(bytes) {
+        if word_at(line.bytes, 0) == b"f".as_slice() {
+            let corners = word_count(line.bytes).saturating_sub(1);
+            count = count.saturating_add(triangles(corners));
+        }
+        if count >= u64::from(face) {
+            return line.number;
+        }
     }
-    if first == b"end_header".as_slice() {
-        return Ahead {
-            has_head: false,
-            points: ahead.points,
-        };
-    }
-    if !is_off && word_at(line, 1) == b"vertex".as_slice() {
-        return Ahead {
-            has_head: true,
-            points: number_of(word_at(line, 2)),
-        };
-    }
-    ahead
+    0
 }
 
-// How many corners the polygon of a line has; 0 where the line has none.
-fn corners_in(ahead: &mut Ahead, format: Format, line: &[u8]) -> u64 {
-    let first = word_at(line, 0);
-    if first.is_empty() {
-        return 0;
+// The same in an OFF text: the lines with words are `OFF`, the counts, a row for each point, and then the faces.
+fn line_in_off(bytes: &[u8], face: u32) -> u32
+    requires { length bytes.now ≤ TEXT_MAX }
+{
+    let mut rows: u64 = 0;
+    let mut before_faces: u64 = u64::MAX;
+    let mut count: u64 = 0;
+    for line in Lines::new(bytes) {
+        let first = word_at(line.bytes, 0);
+        if !first.is_empty() {
+            rows = rows.saturating_add(1);
+            if rows == 2 {
+                before_faces = number_of(first).saturating_add(2);
+            }
+            if rows > before_faces {
+                count = count.saturating_add(triangles(number_of(first)));
+            }
+            if count >= u64::from(face) {
+                return line.number;
+            }
+        }
     }
-    if let Format::Obj = format {
-        let is_face = first == b"f".as_slice();
-        return if is_face {
-            word_count(line).saturating_sub(1)
-        } else {
-            0
-        };
+    0
+}
+
+// The same in a PLY text: behind `end_header` there is a row for each point, and then the faces.
+fn line_in_ply(bytes: &[u8], face: u32) -> u32
+    requires { length bytes.now ≤ TEXT_MAX }
+{
+    let mut in_head = true;
+    let mut points_left: u64 = 0;
+    let mut count: u64 = 0;
+    for line in Lines::new(bytes) {
+        let first = word_at(line.bytes, 0);
+        if in_head {
+            if first == b"end_header".as_slice() {
+                in_head = false;
+            } else if word_at(line.bytes, 1) == b"vertex".as_slice() {
+                points_left = number_of(word_at(line.bytes, 2));
+            }
+        } else if !first.is_empty() && points_left > 0 {
+            points_left -= 1;
+        } else if !first.is_empty() {
+            count = count.saturating_add(triangles(number_of(first)));
+            if count >= u64::from(face) {
+                return line.number;
+            }
+        }
     }
-    if ahead.has_head {
-        *ahead = behind_head(*ahead, format, line);
-        return 0;
-    }
-    if ahead.points > 0 {
-        ahead.points -= 1;
-        return 0;
-    }
-    number_of(first)
+    0
 }
 
 /// The line of the face of a number, in a text of a format, where a polygon of k corners is k - 2 faces; 0 where there is none.
 pub(crate) fn line_of_face(format: Format, bytes: &[u8], face: u32) -> u32
     requires { length bytes.now ≤ TEXT_MAX }
 {
-    let mut ahead = Ahead {
-        has_head: true,
-        points: 0,
-    };
-    let mut count: u64 = 0;
-    for line in Lines::new(bytes) {
-        let corners = corners_in(&mut ahead, format, line.bytes);
-        count = count.saturating_add(corners.saturating_sub(2));
-        if count >= u64::from(face) {
-            return line.number;
-        }
+    match format {
+        Format::Obj => line_in_obj(bytes, face),
+        Format::Off => line_in_off(bytes, face),
+        Format::Ply => line_in_ply(bytes, face),
     }
-    0
 }

@@ -15,7 +15,6 @@ mod other_reasons;
 mod overwritten;
 mod places;
 mod proof_reasons;
-mod sentence;
 mod shape_reasons;
 mod step_reasons;
 mod terminal;
@@ -32,9 +31,10 @@ pub use long_numbers::has_long_number;
 pub use manifold::manifold_warning;
 pub use mesh_reasons::mesh_text_reason;
 pub use other_reasons::{off_text_reason, ply_text_reason};
-pub use overwritten::{output_file_reason, overwriting_warning, prefix_warning};
+pub use overwritten::{
+    output_read_reason, output_stored_reason, overwriting_warning, prefix_warning,
+};
 pub use proof_reasons::{Unproved, motion_reason, proof_text_reason};
-pub use sentence::{Sentence, Value, and_told, told};
 pub use shape_reasons::{meeting_reason, shape_reason};
 pub use step_reasons::{gone_reason, step_text_reason, use_reason};
 pub use terminal::plain;

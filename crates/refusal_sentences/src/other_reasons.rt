@@ -3,35 +3,23 @@ ghost use Rattle.std.specs.Prelude.{◌≤◌, length};
 ghost use Rattle.grid_base.specs.declared.TheConstants.{TEXT_MAX};
 
 use crate::mesh_reasons::greatest;
-use crate::places::{Row, encoding, find_line, is_among, line_at, place, said_of, word_at};
-use crate::sentence::{Sentence, Value, told};
-use line_text::{TextFault, TextWhy};
+use crate::places::{encoding, line_at, place, word_at};
+use line_text::{Lines, TextFault, TextWhy};
 use std::alloc::{AllocError, Global};
 
-// What an OFF file that is not read may be, by the first word of its first line with words.
-static OTHER_OFF: [Row; 5] = [
-    (
-        "OFF",
-        "the word OFF stands on a line of its own, and the counts on the next; binary OFF is not read",
-    ),
-    (
-        "COFF NOFF CNOFF STOFF 4OFF nOFF",
-        "vertices with colours, normals or a fourth coordinate are not read: store the file as plain OFF",
-    ),
-    (
-        "ply",
-        "this looks like a PLY file: its name has to end in .ply",
-    ),
-    (
-        "v f o g mtllib",
-        "this looks like an OBJ file: its name has to end in .obj",
-    ),
-    ("solid", "this looks like an STL file, which is not read"),
-];
-
-// What an OFF file that is not read may be.
+// What an OFF file that is not read may be, by its first line with words.
 fn other_off(line: &[u8]) -> &'static str {
-    said_of(&OTHER_OFF, word_at(line, 0)).unwrap_or("an OFF file begins with a line `OFF`")
+    match word_at(line, 0) {
+        b"OFF" =>
+            "the word OFF stands on a line of its own, and the counts on the next; binary OFF is not read",
+        b"COFF" | b"NOFF" | b"CNOFF" | b"STOFF" | b"4OFF" | b"nOFF" =>
+            "vertices with colours, normals or a fourth coordinate are not read: store the file as plain OFF",
+        b"ply" => "this looks like a PLY file: its name has to end in .ply",
+        b"v" | b"f" | b"o" | b"g" | b"mtllib" =>
+            "this looks like an OBJ file: its name has to end in .obj",
+        b"solid" => "this looks like an STL file, which is not read",
+        _ => "an OFF file begins with a line `OFF`",
+    }
 }
 
 // What a line of an OFF file should be, by the reason.
@@ -51,49 +39,34 @@ fn expected_row(why: TextWhy) -> &'static str {
             "a count is one to ten digits, and a coordinate a decimal number such as -0.5 or 2.5e-3, of at most 64 bytes",
         TextWhy::Corner =>
             "a corner is the number of a vertex, from 0 on, in one to ten digits; there are no negative ones",
-        TextWhy::Range =>
-            "a coordinate is at most {most} in size with {decimals} decimals, and a face has three corners or more",
         TextWhy::Long => "there are more rows or words than the counts and the head say",
         _ => "there are too few words, or too few rows for the counts",
     }
 }
 
-// What a line of a PLY head that is not read may be, by its first word alone.
-static OTHER_HEAD: [Row; 5] = [
-    (
-        "format",
-        "binary PLY is not read: store the file as ASCII PLY",
-    ),
-    (
-        "property",
-        "a property is `property TYPE NAME`, and x, y and z are among those of a vertex, once each",
-    ),
-    (
-        "OFF",
-        "this looks like an OFF file: its name has to end in .off",
-    ),
-    (
-        "v f o g mtllib",
-        "this looks like an OBJ file: its name has to end in .obj",
-    ),
-    ("solid", "this looks like an STL file, which is not read"),
-];
+// Whether a PLY head may tell this kind of element.
+fn is_known_element(name: &[u8]) -> bool {
+    name == b"vertex".as_slice() || name == b"face".as_slice()
+}
 
 // What a line of a PLY head that is not read may be.
 fn other_head(line: &[u8]) -> &'static str {
-    let (first, next) = (word_at(line, 0), word_at(line, 1));
-    if is_among("format", first) && is_among("ascii", next) {
-        return "the second line of the head is `format ascii 1.0`";
+    match (word_at(line, 0), word_at(line, 1)) {
+        (b"format", b"ascii") => "the second line of the head is `format ascii 1.0`",
+        (b"format", _) => "binary PLY is not read: store the file as ASCII PLY",
+        (b"element", name) if !is_known_element(name) =>
+            "elements other than `vertex` and, after it, `face` are not read: store the file without them",
+        (b"property", b"list") =>
+            "the one list that is read is `property list TYPE TYPE vertex_indices`, the first property of a face",
+        (b"property", _) =>
+            "a property is `property TYPE NAME`, and x, y and z are among those of a vertex, once each",
+        (b"OFF", _) => "this looks like an OFF file: its name has to end in .off",
+        (b"v" | b"f" | b"o" | b"g" | b"mtllib", _) =>
+            "this looks like an OBJ file: its name has to end in .obj",
+        (b"solid", _) => "this looks like an STL file, which is not read",
+        _ =>
+            "a PLY head has the lines ply, format ascii 1.0, element vertex V, its properties, element face F, its properties, end_header",
     }
-    if is_among("property", first) && is_among("list", next) {
-        return "the one list that is read is `property list TYPE TYPE vertex_indices`, the first property of a face";
-    }
-    if is_among("element", first) && !is_among("vertex face", next) {
-        return "elements other than `vertex` and, after it, `face` are not read: store the file without them";
-    }
-    said_of(&OTHER_HEAD, first).unwrap_or(
-        "a PLY head has the lines ply, format ascii 1.0, element vertex V, its properties, element face F, its properties, end_header",
-    )
 }
 
 // What a line of a PLY file should be, by the reason.
@@ -106,6 +79,18 @@ fn expected_ply(line: &[u8], why: TextWhy) -> &'static str {
     }
 }
 
+// Whether a text has no line of this number.
+fn is_behind(bytes: &[u8], number: u32) -> bool
+    requires { length bytes.now ≤ TEXT_MAX }
+{
+    for line in Lines::new(bytes) {
+        if line.number >= number {
+            return false;
+        }
+    }
+    true
+}
+
 // Says where a line is outside its grammar, and what was expected of it.
 fn reason(
     alloc: Global,
@@ -113,28 +98,27 @@ fn reason(
     bytes: &[u8],
     decimals: u8,
     fault: TextFault,
-    expected: &'static str,
+    expected: &str,
 ) -> Result<String, AllocError>
     requires { length bytes.now ≤ TEXT_MAX }
 {
     if let Some(encoding) = encoding(bytes) {
-        let file = Sentence::of_one("{name}", Value::Text(name));
-        return told(alloc, &[file, Sentence::of(encoding)]);
+        return format!(in alloc; "{name}; {encoding}");
     }
-    let Some(line) = find_line(bytes, fault.line) else {
-        let said = Sentence::of_two(
-            "{name} ends before line {line}; fewer rows are there than it says, or none",
-            Value::Text(name),
-            Value::Number(u64::from(fault.line)),
+    if is_behind(bytes, fault.line) {
+        let line = fault.line;
+        return format!(in alloc;
+            "{name} ends before line {line}; fewer rows are there than it says, or none"
         );
-        return told(alloc, &[said]);
-    };
-    let what = Sentence::of_two(
-        expected,
-        Value::Text(greatest(decimals)),
-        Value::Number(u64::from(decimals)),
-    );
-    told(alloc, &[place(name, fault.line, line), what])
+    }
+    let at = place(alloc, name, fault.line, line_at(bytes, fault.line))?;
+    if fault.why == TextWhy::Range {
+        let most = greatest(decimals);
+        return format!(in alloc;
+            "{at}; a coordinate is at most {most} in size with {decimals} decimals, and a face has three corners or more"
+        );
+    }
+    format!(in alloc; "{at}; {expected}")
 }
 
 /// Says which line of an OFF file is outside its grammar, and what was expected.

@@ -2,9 +2,8 @@
 ghost use Rattle.std.specs.Prelude.{◌≤◌, length};
 ghost use Rattle.grid_base.specs.declared.TheConstants.{TEXT_MAX};
 
-use crate::log_reasons::own_text_reason;
-use crate::places::{line_at, place};
-use crate::sentence::{Sentence, of_pair, told};
+use crate::log_reasons::HAS_CR;
+use crate::places::{encoding, line_at, place, word_at};
 use line_text::{TextFault, TextWhy};
 use mesh_base::PairName;
 use std::alloc::{AllocError, Global};
@@ -32,14 +31,18 @@ pub fn proof_text_reason(
 ) -> Result<String, AllocError>
     requires { length bytes.now ≤ TEXT_MAX }
 {
-    own_text_reason(
-        alloc,
-        name,
-        bytes,
-        b"proof",
-        fault.line,
-        expected(fault.why),
-    )
+    let line = line_at(bytes, fault.line);
+    let mut said = place(alloc, name, fault.line, line)?;
+    said.push_str("; ")?;
+    match encoding(bytes) {
+        Some(encoding) => said.push_str(encoding)?,
+        None if bytes.contains(&b'\r') => said.push_str(HAS_CR)?,
+        None if fault.line == 1 && word_at(line, 1) == b"proof".as_slice() => {
+            said.push_str("its version is none that this program knows")?;
+        }
+        None => said.push_str(expected(fault.why))?,
+    }
+    Ok(said)
 }
 
 /// What is found against a motion of a log.
@@ -57,32 +60,51 @@ pub enum Unproved {
     Missing(PairName),
 }
 
+// Names an edge and a face, between other words.
+fn about_pair(
+    alloc: Global,
+    before: &str,
+    pair: PairName,
+    behind: &str,
+) -> Result<String, AllocError> {
+    let a = pair.a.0;
+    let b = pair.b.0;
+    let face = pair.face.0;
+    format!(in alloc; "{before} the edge of the vertices {a} and {b} and face {face}{behind}")
+}
+
 // What is found against a motion.
-fn finding(why: Unproved) -> Sentence<'static> {
-    let (text, pair) = match why {
-        Unproved::Fails(pair) => (
-            "it can not be proved that nothing meets on the way: the edge of the vertices {a} and {b} and face {face} do not pass the test",
+fn finding(alloc: Global, why: Unproved) -> Result<String, AllocError> {
+    match why {
+        Unproved::Fails(pair) => about_pair(
+            alloc,
+            "it can not be proved that nothing meets on the way:",
             pair,
+            " do not pass the test",
         ),
-        Unproved::NoMotion => {
-            return Sentence::of(
-                "the proof has a motion here and the log none, or the log has one that the proof lacks, or of which it claims another thing",
-            );
-        }
-        Unproved::Stranger(pair) => (
-            "the proof has an entry here for the edge of the vertices {a} and {b} and face {face}, and the mesh has no such two without a common vertex",
+        Unproved::NoMotion => String::from_str(
+            alloc,
+            "the proof has a motion here and the log none, or the log has one that the proof lacks, or of which it claims another thing",
+        ),
+        Unproved::Stranger(pair) => about_pair(
+            alloc,
+            "the proof has an entry here for",
             pair,
+            ", and the mesh has no such two without a common vertex",
         ),
-        Unproved::Invalid(pair) => (
-            "what the proof has here for the edge of the vertices {a} and {b} and face {face} does not keep them apart on the way",
+        Unproved::Invalid(pair) => about_pair(
+            alloc,
+            "what the proof has here for",
             pair,
+            " does not keep them apart on the way",
         ),
-        Unproved::Missing(pair) => (
-            "the proof has no entry here for the edge of the vertices {a} and {b} and face {face}, which need one",
+        Unproved::Missing(pair) => about_pair(
+            alloc,
+            "the proof has no entry here for",
             pair,
+            ", which need one",
         ),
-    };
-    of_pair(text, pair)
+    }
 }
 
 /// Says of which line of a log the motion is not proved, and what is found against it.
@@ -96,5 +118,7 @@ pub fn motion_reason(
     requires { length bytes.now ≤ TEXT_MAX }
 {
     let line = line_at(bytes, number);
-    told(alloc, &[place(name, number, line), finding(why)])
+    let place = place(alloc, name, number, line)?;
+    let finding = finding(alloc, why)?;
+    format!(in alloc; "{place}; {finding}")
 }

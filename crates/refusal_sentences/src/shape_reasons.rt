@@ -3,22 +3,18 @@ ghost use Rattle.std.specs.Prelude.{◌≤◌, length};
 ghost use Rattle.grid_base.specs.declared.TheConstants.{TEXT_MAX};
 
 use crate::face_lines::line_of_face;
-use crate::sentence::{Sentence, Value, of_pair, told};
 use mesh_base::{MeshLists, PairName, Scale, ShapeFault};
 use std::alloc::{AllocError, Global};
 use track_input::Format;
 
-// Whether a side of a face runs from a vertex to another.
-fn has_side(face: [u32; 3], from: u32, to: u32) -> bool {
-    let [a, b, c] = face;
-    (a == from && b == to) || (b == from && c == to) || (c == from && a == to)
-}
-
-// How many faces have a side that runs from a vertex to another.
+// How many sides of faces run from a vertex to another.
 fn sides(faces: &[[u32; 3]], from: u32, to: u32) -> u32 {
     let mut count: u32 = 0;
     for face in faces {
-        count = count.saturating_add(u32::from(has_side(*face, from, to)));
+        let [a, b, c] = *face;
+        if (a == from && b == to) || (b == from && c == to) || (c == from && a == to) {
+            count = count.saturating_add(1);
+        }
     }
     count
 }
@@ -49,98 +45,159 @@ fn meaning(there: u32, back: u32) -> &'static str {
 }
 
 // That two vertices stand at one place, if the vertex has another there.
-fn seam(lists: &MeshLists, vertex: u32) -> Option<Sentence<'static>> {
-    let twin = twin(lists, vertex)?;
-    Some(Sentence::of_two(
-        "the vertices {vertex} and {twin} stand at one place, so this may be a seam: make them one vertex",
-        Value::Number(u64::from(vertex)),
-        Value::Number(u64::from(twin)),
-    ))
+fn seam(alloc: Global, lists: &MeshLists, vertex: u32) -> Result<Option<String>, AllocError> {
+    match twin(lists, vertex) {
+        None => Ok(None),
+        Some(twin) => {
+            let said = format!(in alloc;
+                "the vertices {vertex} and {twin} stand at one place, so this may be a seam: make them one vertex"
+            )?;
+            Ok(Some(said))
+        }
+    }
+}
+
+// That two vertices stand at one place, if one of the two has another there.
+fn seam_of_edge(
+    alloc: Global,
+    lists: &MeshLists,
+    from: u32,
+    to: u32,
+) -> Result<Option<String>, AllocError> {
+    match seam(alloc, lists, from)? {
+        Some(said) => Ok(Some(said)),
+        None => seam(alloc, lists, to),
+    }
 }
 
 // How often faces run one way and the other, and what that means.
 fn sides_reason(
     alloc: Global,
-    name: Sentence<'_>,
     lists: &MeshLists,
     from: u32,
     to: u32,
 ) -> Result<String, AllocError> {
     let there = sides(lists.faces.as_slice(), from, to);
     let back = sides(lists.faces.as_slice(), to, from);
-    let front = Sentence::of_four(
-        "the surface is not closed: from vertex {from} to vertex {to} run {there} faces, and back run {back}",
-        [
-            Value::Number(u64::from(from)),
-            Value::Number(u64::from(to)),
-            Value::Number(u64::from(there)),
-            Value::Number(u64::from(back)),
-        ],
-    );
-    let seam = match seam(lists, from) {
-        Some(seam) => Some(seam),
-        None => seam(lists, to),
-    };
-    let why = seam.unwrap_or(Sentence::of(meaning(there, back)));
-    told(alloc, &[name, front, why])
+    let front = format!(in alloc;
+        "the surface is not closed: from vertex {from} to vertex {to} run {there} faces, and back run {back}"
+    )?;
+    match seam_of_edge(alloc, lists, from, to)? {
+        Some(seam) => format!(in alloc; "{front}; {seam}"),
+        None => {
+            let meaning = meaning(there, back);
+            format!(in alloc; "{front}; {meaning}")
+        }
+    }
+}
+
+// Says that faces do not run as often one way as the other, how often they run where the lists are had, and what that means.
+fn unbalanced_reason(
+    alloc: Global,
+    lists: Option<&MeshLists>,
+    from: u32,
+    to: u32,
+) -> Result<String, AllocError> {
+    match lists {
+        Some(lists) => sides_reason(alloc, lists, from, to),
+        None => format!(in alloc; "the surface is not closed between the vertices {from} and {to}"),
+    }
+}
+
+// `face F (line N)`.
+fn face_place(alloc: Global, format: Format, bytes: &[u8], face: u32) -> Result<String, AllocError>
+    requires { length bytes.now ≤ TEXT_MAX }
+{
+    match line_of_face(format, bytes, face) {
+        0 => format!(in alloc; "face {face}"),
+        line => format!(in alloc; "face {face} (line {line})"),
+    }
+}
+
+// That a corner of a face names no vertex.
+fn corner_reason(
+    alloc: Global,
+    format: Format,
+    bytes: &[u8],
+    face: u32,
+    corner: u8,
+) -> Result<String, AllocError>
+    requires { length bytes.now ≤ TEXT_MAX }
+{
+    let face = face_place(alloc, format, bytes, face)?;
+    format!(in alloc; "corner {corner} of {face} names no vertex")
+}
+
+// That a face has one vertex twice.
+fn repeated_reason(
+    alloc: Global,
+    format: Format,
+    bytes: &[u8],
+    face: u32,
+) -> Result<String, AllocError>
+    requires { length bytes.now ≤ TEXT_MAX }
+{
+    let face = face_place(alloc, format, bytes, face)?;
+    format!(in alloc; "{face} has one vertex twice")
+}
+
+// That two faces have the same corners.
+fn doubled_reason(
+    alloc: Global,
+    format: Format,
+    bytes: &[u8],
+    first: u32,
+    second: u32,
+) -> Result<String, AllocError>
+    requires { length bytes.now ≤ TEXT_MAX }
+{
+    let first = face_place(alloc, format, bytes, first)?;
+    let second = face_place(alloc, format, bytes, second)?;
+    format!(in alloc; "{first} and {second} have the same corners in the same order")
 }
 
 // That there are more of something than a mesh may have, and with which option there may be as many, if with one.
-fn many(count: u64, what: &'static str, most: u32, most_large: u32) -> Sentence<'static> {
-    let text = if most < most_large && count <= u64::from(most_large) {
-        "there are {count} {what}, of at most {most}: with `--large` there may be {most_large}"
-    } else {
-        "there are {count} {what}, of at most {most}"
-    };
-    Sentence::of_four(
-        text,
-        [
-            Value::Number(count),
-            Value::Text(what),
-            Value::Number(u64::from(most)),
-            Value::Number(u64::from(most_large)),
-        ],
-    )
+fn many_reason(
+    alloc: Global,
+    count: u64,
+    what: &str,
+    most: u32,
+    most_large: u32,
+) -> Result<String, AllocError> {
+    if most < most_large && count <= u64::from(most_large) {
+        return format!(in alloc;
+            "there are {count} {what}, of at most {most}: with `--large` there may be {most_large}"
+        );
+    }
+    format!(in alloc; "there are {count} {what}, of at most {most}")
 }
 
 // What is wrong with the shape of a mesh.
-fn what_is_wrong(scale: Scale, format: Format, bytes: &[u8], fault: ShapeFault) -> Sentence<'static>
+fn what_is_wrong(
+    alloc: Global,
+    scale: Scale,
+    format: Format,
+    bytes: &[u8],
+    lists: Option<&MeshLists>,
+    fault: ShapeFault,
+) -> Result<String, AllocError>
     requires { length bytes.now ≤ TEXT_MAX }
 {
-    let (limits, large) = (scale.limits(), Scale::Large.limits());
     match fault {
-        ShapeFault::TooManyVertices { count } => many(
-            count,
-            "vertices",
-            limits.vertices,
-            large.vertices,
+        ShapeFault::TooManyVertices { count } => {
+            let (most, large) = (scale.limits(), Scale::Large.limits());
+            many_reason(alloc, count, "vertices", most.vertices, large.vertices)
+        }
+        ShapeFault::TooManyFaces { count } => {
+            let (most, large) = (scale.limits(), Scale::Large.limits());
+            many_reason(alloc, count, "faces", most.faces, large.faces)
+        }
+        ShapeFault::NoVertex { face, corner } => corner_reason(alloc, format, bytes, face, corner),
+        ShapeFault::Repeated { face } => repeated_reason(alloc, format, bytes, face),
+        ShapeFault::Doubled { first, second } => doubled_reason(
+            alloc, format, bytes, first, second,
         ),
-        ShapeFault::TooManyFaces { count } => many(count, "faces", limits.faces, large.faces),
-        ShapeFault::NoVertex { face, corner } => Sentence::of_three(
-            "corner {corner} of face {face}{line} names no vertex",
-            Value::Number(u64::from(corner)),
-            Value::Number(u64::from(face)),
-            Value::Line(line_of_face(format, bytes, face)),
-        ),
-        ShapeFault::Repeated { face } => Sentence::of_two(
-            "face {face}{line} has one vertex twice",
-            Value::Number(u64::from(face)),
-            Value::Line(line_of_face(format, bytes, face)),
-        ),
-        ShapeFault::Doubled { first, second } => Sentence::of_four(
-            "face {first}{line} and face {second}{line} have the same corners in the same order",
-            [
-                Value::Number(u64::from(first)),
-                Value::Line(line_of_face(format, bytes, first)),
-                Value::Number(u64::from(second)),
-                Value::Line(line_of_face(format, bytes, second)),
-            ],
-        ),
-        ShapeFault::Unbalanced { from, to } => Sentence::of_two(
-            "the surface is not closed between the vertices {from} and {to}",
-            Value::Number(u64::from(from)),
-            Value::Number(u64::from(to)),
-        ),
+        ShapeFault::Unbalanced { from, to } => unbalanced_reason(alloc, lists, from, to),
     }
 }
 
@@ -157,21 +214,16 @@ pub fn shape_reason(
 ) -> Result<String, AllocError>
     requires { length bytes.now ≤ TEXT_MAX }
 {
-    let name = Sentence::of_one("{name}", Value::Text(name));
-    match (fault, lists) {
-        (ShapeFault::Unbalanced { from, to }, Some(lists)) => sides_reason(
-            alloc, name, lists, from, to,
-        ),
-        _ => told(alloc, &[name, what_is_wrong(scale, format, bytes, fault)]),
-    }
+    let what = what_is_wrong(alloc, scale, format, bytes, lists, fault)?;
+    format!(in alloc; "{name}; {what}")
 }
 
 /// Says which edge and face of a mesh meet.
 pub fn meeting_reason(alloc: Global, name: &str, pair: PairName) -> Result<String, AllocError> {
-    let name = Sentence::of_one("{name}", Value::Text(name));
-    let what = of_pair(
-        "the surface meets itself: the edge of the vertices {a} and {b} and face {face}, which has neither, have a common point",
-        pair,
-    );
-    told(alloc, &[name, what])
+    let a = pair.a.0;
+    let b = pair.b.0;
+    let face = pair.face.0;
+    format!(in alloc;
+        "{name}; the surface meets itself: the edge of the vertices {a} and {b} and face {face}, which has neither, have a common point"
+    )
 }

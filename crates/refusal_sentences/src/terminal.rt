@@ -1,22 +1,13 @@
 // Sentences as a terminal may have them.
 use std::alloc::{AllocError, Global};
 
-// The first and the last of characters that turn the way in which what follows is written, or end a line.
-static TURNING: [(char, char); 4] = [
-    ('\u{61c}', '\u{61c}'),
-    ('\u{200e}', '\u{200f}'),
-    ('\u{2028}', '\u{202e}'),
-    ('\u{2066}', '\u{2069}'),
-];
-
 // Whether a character is none that is seen: it steers a terminal, or turns the way in which what follows is written.
 fn is_steering(c: char) -> bool {
-    for (first, last) in &TURNING {
-        if *first <= c && c <= *last {
-            return true;
-        }
+    match c {
+        '\u{61c}' | '\u{200e}' | '\u{200f}' => true,
+        '\u{2028}'..='\u{202e}' | '\u{2066}'..='\u{2069}' => true,
+        _ => c.is_control(),
     }
-    c.is_control()
 }
 
 /// A sentence in which each character that is not seen is told by its number, as `\u001b`, so that a name in it can not steer a terminal.

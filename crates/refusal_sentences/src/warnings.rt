@@ -1,11 +1,11 @@
 // What may be amiss in a job that is done.
 ghost use Rattle.std.specs.Prelude.{◌<◌, ◌≤◌};
 
-use crate::sentence::{Sentence, Value};
 use mesh_base::MeshLists;
+use std::alloc::{AllocError, Global};
 
 // Ten to the power of a number of digits, up to six.
-pub(crate) fn ten_to(digits: u8) -> u32
+fn ten_to(digits: u8) -> u32
     ensures { 0 < result }
 {
     match digits {
@@ -59,40 +59,35 @@ fn decimals_that_keep(fine: &MeshLists, fine_decimals: u8, decimals: u8) -> u8 {
 /// Says how many coordinates of a mesh were rounded on a grid of so many decimals, from its lists on the finest grid that holds it, and
 /// whether its text has digits that not even that one keeps; `None` where none was rounded.
 pub fn rounding_warning(
+    alloc: Global,
     fine: &MeshLists,
     fine_decimals: u8,
     decimals: u8,
     is_finer: bool,
-) -> Option<Sentence<'static>> {
+) -> Result<Option<String>, AllocError> {
     let (count, most) = off_multiples(fine, ten_to(fine_decimals.saturating_sub(decimals)));
     if count == 0 {
-        return is_finer.then_some(Sentence::of_one(
-            "digits after decimal {fine_decimals} of the coordinates were rounded; no grid that holds the mesh keeps them",
-            Value::Number(u64::from(fine_decimals)),
-        ));
+        if !is_finer {
+            return Ok(None);
+        }
+        let said = format!(in alloc;
+            "digits after decimal {fine_decimals} of the coordinates were rounded; no grid that holds the mesh keeps them"
+        )?;
+        return Ok(Some(said));
     }
-    let (text, keeps) = if is_finer {
-        (
-            "{count} of {all} coordinates were rounded by up to {most}; --decimals {fine_decimals} keeps them to that decimal, and what is after it no grid that holds the mesh keeps",
-            fine_decimals,
-        )
-    } else {
-        (
-            "{count} of {all} coordinates were rounded by up to {most}; --decimals {keeps} keeps them",
-            decimals_that_keep(fine, fine_decimals, decimals),
-        )
-    };
     let all = (fine.points.len() as u64).saturating_mul(3);
     let most = f64::from(most) / f64::from(ten_to(fine_decimals));
-    Some(Sentence::of_four(
-        text,
-        [
-            Value::Number(count),
-            Value::Number(all),
-            Value::Float(most),
-            Value::Number(u64::from(keeps)),
-        ],
-    ))
+    let keeps = decimals_that_keep(fine, fine_decimals, decimals);
+    if is_finer {
+        let said = format!(in alloc;
+            "{count} of {all} coordinates were rounded by up to {most}; --decimals {fine_decimals} keeps them to that decimal, and what is after it no grid that holds the mesh keeps"
+        )?;
+        return Ok(Some(said));
+    }
+    let said = format!(in alloc;
+        "{count} of {all} coordinates were rounded by up to {most}; --decimals {keeps} keeps them"
+    )?;
+    Ok(Some(said))
 }
 
 // A corner's place as seen from another point.

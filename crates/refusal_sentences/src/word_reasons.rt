@@ -1,11 +1,13 @@
 // Why the words of a command line are of no listed form.
-use crate::sentence::{Sentence, Value, told};
-use line_text::spelled_number;
+use line_text::{is_word, spelled_number};
 use std::alloc::{AllocError, Global};
 
 // Whether a word may name a file: it is not empty and has no dash in front.
-fn is_file_word(word: &str) -> bool {
-    !word.is_empty() && !word.starts_with('-')
+fn is_file_word(word: &[u8]) -> bool {
+    match word {
+        [] => false,
+        [first, ..] => *first != b'-',
+    }
 }
 
 // Whether the ending of a name picks a format.
@@ -37,50 +39,8 @@ fn is_number_in(low: u32, high: u32, word: &[u8]) -> bool {
     }
 }
 
-// What a command wants: how it is called, so many files, whether each has to end in a format's ending, and whether it takes `--only K`.
-#[derive(Clone, Copy)]
-struct Wanted {
-    form: &'static str,
-    files: u64,
-    formats: bool,
-    only: bool,
-}
-
-// What a command wants that is called so, with so many files that may end as they like, and with no option of its own.
-fn plain_form(form: &'static str, files: u64) -> Wanted {
-    Wanted {
-        form,
-        files,
-        formats: false,
-        only: false,
-    }
-}
-
-// What the command of a name wants, if it takes files.
-fn wanted_by(command: &str) -> Option<Wanted> {
-    Some(match command {
-        "track" => plain_form("track MESH STEPS PREFIX", 3),
-        "convert" => Wanted {
-            formats: true,
-            ..plain_form("convert FROM TO", 2)
-        },
-        "measure" => plain_form("measure MESH LOG", 2),
-        "prove" => plain_form("prove MESH LOG", 2),
-        "verify" => plain_form("verify MESH LOG PROOF", 3),
-        "replay" => Wanted {
-            only: true,
-            ..plain_form("replay MESH LOG PREFIX", 3)
-        },
-        "check" => Wanted {
-            formats: true,
-            ..plain_form("check MESH", 1)
-        },
-        _ => return None,
-    })
-}
-
-// An option with a value.
-#[derive(Clone, Copy)]
+// An option of a command that takes files.
+#[derive(Clone, Copy, PartialEq, Eq)]
 enum Named {
     // `--decimals N`.
     Decimals,
@@ -89,7 +49,7 @@ enum Named {
 }
 
 // What the next word behind a command that takes files can be.
-#[derive(Clone, Copy)]
+#[derive(Clone, Copy, PartialEq, Eq)]
 enum Awaited {
     // The name of a file, or an option.
     Any,
@@ -99,273 +59,413 @@ enum Awaited {
     File,
 }
 
-// What was seen of the words behind a command that takes files: what the next can be, how many files there are, and which options.
+// What a word behind a command that takes files is taken as.
 #[derive(Clone, Copy)]
-struct Seen {
-    awaited: Awaited,
-    files: u64,
-    large: bool,
-    decimals: bool,
-    only: bool,
+enum Taken<'a> {
+    // The end of the options, `--`.
+    Dashes,
+    // `--large`.
+    Large,
+    // An option, whose value is the next word.
+    Option(Named),
+    // The value of an option: the word behind it, or what stands behind `--decimals=` or `--only=`.
+    Value(Named, &'a str),
+    // An option that there is not.
+    Unknown(&'a str),
+    // The name of a file.
+    File(&'a str),
 }
 
-// Notes that an option is given; says that it is given twice, if it is.
-fn given(option: &'static str, seen: &mut bool) -> Option<Sentence<'static>> {
-    let again = *seen;
-    *seen = true;
-    again.then_some(Sentence::of_one("`{word}` is given twice", Value::Text(option)))
+// What a word is taken as that may be an option with nothing behind it, or the name of a file.
+fn option_or_file(wanted: Wanted, word: &str) -> Taken<'_> {
+    let bytes = word.as_bytes();
+    if is_word(bytes, b"--") {
+        return Taken::Dashes;
+    }
+    if is_word(bytes, b"--large") {
+        return Taken::Large;
+    }
+    if is_word(bytes, b"--decimals") {
+        return Taken::Option(Named::Decimals);
+    }
+    if wanted.only && is_word(bytes, b"--only") {
+        return Taken::Option(Named::Only);
+    }
+    match bytes {
+        [b'-', _, ..] => Taken::Unknown(word),
+        _ => Taken::File(word),
+    }
+}
+
+// What a word is taken as that may be an option.
+fn any_word(wanted: Wanted, word: &str) -> Taken<'_> {
+    if let Some(digit) = word.strip_prefix("--decimals=") {
+        return Taken::Value(Named::Decimals, digit);
+    }
+    match word.strip_prefix("--only=") {
+        Some(number) if wanted.only => Taken::Value(Named::Only, number),
+        _ => option_or_file(wanted, word),
+    }
+}
+
+// What a word is taken as. Options may stand before the files, among them and behind them.
+fn taken_as(wanted: Wanted, awaited: Awaited, word: &str) -> Taken<'_> {
+    match awaited {
+        Awaited::Value(named) => Taken::Value(named, word),
+        Awaited::File => Taken::File(word),
+        Awaited::Any => any_word(wanted, word),
+    }
 }
 
 // Says what is wrong with a word as the decimals, if anything is.
-fn decimals_fault(digit: &str) -> Option<Sentence<'_>> {
+fn decimals_reason(alloc: Global, digit: &str) -> Result<Option<String>, AllocError> {
     if is_decimals(digit.as_bytes()) {
-        return None;
+        return Ok(None);
     }
-    Some(Sentence::of_one(
-        "{digit} are no decimals, which are one digit from 0 to 6",
-        Value::Quoted(digit),
-    ))
+    let said = format!(in alloc; "{digit:?} are no decimals, which are one digit from 0 to 6")?;
+    Ok(Some(said))
 }
 
 // Says what is wrong with a word as the number of a mesh, if anything is.
-fn only_fault(number: &str) -> Option<Sentence<'_>> {
-    if is_number_in(0, u32::MAX, number.as_bytes()) {
-        return None;
+fn only_reason(alloc: Global, number: &str) -> Result<Option<String>, AllocError> {
+    let most = u32::MAX;
+    if is_number_in(0, most, number.as_bytes()) {
+        return Ok(None);
     }
-    Some(Sentence::of_one(
-        "{number} is no number of a mesh, which is 0 to 4294967295, in digits with no needless zero in front",
-        Value::Quoted(number),
-    ))
+    let said = format!(in alloc;
+        "{number:?} is no number of a mesh, which is 0 to {most}, in digits with no needless zero in front"
+    )?;
+    Ok(Some(said))
 }
 
-// Takes the value of an option, and says what is wrong with it, if anything is.
-fn value_fault<'a>(seen: &mut Seen, named: Named, value: &'a str) -> Option<Sentence<'a>> {
-    seen.awaited = Awaited::Any;
-    let again = match named {
-        Named::Decimals => given("--decimals", &mut seen.decimals),
-        Named::Only => given("--only", &mut seen.only),
-    };
-    if again.is_some() {
-        return again;
+// The word of an option.
+fn option_word(named: Named) -> &'static str {
+    match named {
+        Named::Decimals => "--decimals",
+        Named::Only => "--only",
+    }
+}
+
+// Says that an option is given twice, if it is.
+fn again_reason(alloc: Global, word: &str, again: bool) -> Result<Option<String>, AllocError> {
+    if !again {
+        return Ok(None);
+    }
+    Ok(Some(format!(in alloc; "`{word}` is given twice")?))
+}
+
+// Says what is wrong with the value of an option, if anything is; `again` says that it was given before.
+fn value_reason(
+    alloc: Global,
+    named: Named,
+    value: &str,
+    again: bool,
+) -> Result<Option<String>, AllocError> {
+    if again {
+        return again_reason(alloc, option_word(named), again);
     }
     match named {
-        Named::Decimals => decimals_fault(value),
-        Named::Only => only_fault(value),
+        Named::Decimals => decimals_reason(alloc, value),
+        Named::Only => only_reason(alloc, value),
+    }
+}
+
+// Which options a command that takes files has.
+fn options_of(wanted: Wanted) -> &'static str {
+    if wanted.only {
+        "the only options are `--large`, `--decimals N` and `--only K`"
+    } else {
+        "the only options are `--large` and `--decimals N`"
     }
 }
 
 // Says that there is no such option.
-fn unknown(wanted: Wanted, word: &str) -> Sentence<'_> {
-    match word {
-        "--help" | "-h" => Sentence::of_one(
-            "{word} stands alone, or alone after a command",
-            Value::Text(word),
-        ),
-        _ if wanted.only => Sentence::of_one(
-            "{word} has a dash in front, so it is no name of a file, and the only options are `--large`, `--decimals N` and `--only K`",
-            Value::Quoted(word),
-        ),
-        _ => Sentence::of_one(
-            "{word} has a dash in front, so it is no name of a file, and the only options are `--large` and `--decimals N`",
-            Value::Quoted(word),
-        ),
+fn unknown_reason(alloc: Global, wanted: Wanted, word: &str) -> Result<String, AllocError> {
+    if is_word(word.as_bytes(), b"--help") || is_word(word.as_bytes(), b"-h") {
+        return format!(in alloc; "{word} stands alone, or alone after a command");
+    }
+    let options = options_of(wanted);
+    format!(in alloc; "{word:?} has a dash in front, so it is no name of a file, and {options}")
+}
+
+// The verb for so many words.
+fn are(count: usize) -> &'static str {
+    if count == 1 { "is" } else { "are" }
+}
+
+// What a command wants: how it is called, so many files, whether each has to end in a format's ending, and whether it takes `--only K`.
+#[derive(Clone, Copy)]
+struct Wanted {
+    form: &'static str,
+    files: usize,
+    formats: bool,
+    only: bool,
+}
+
+// What `track` wants.
+const TRACK: Wanted = Wanted {
+    form: "track MESH STEPS PREFIX",
+    files: 3,
+    formats: false,
+    only: false,
+};
+
+// What `convert` wants.
+const CONVERT: Wanted = Wanted {
+    form: "convert FROM TO",
+    files: 2,
+    formats: true,
+    only: false,
+};
+
+// What `measure` wants.
+const MEASURE: Wanted = Wanted {
+    form: "measure MESH LOG",
+    files: 2,
+    formats: false,
+    only: false,
+};
+
+// What `prove` wants.
+const PROVE: Wanted = Wanted {
+    form: "prove MESH LOG",
+    files: 2,
+    formats: false,
+    only: false,
+};
+
+// What `verify` wants.
+const VERIFY: Wanted = Wanted {
+    form: "verify MESH LOG PROOF",
+    files: 3,
+    formats: false,
+    only: false,
+};
+
+// What `replay` wants.
+const REPLAY: Wanted = Wanted {
+    form: "replay MESH LOG PREFIX",
+    files: 3,
+    formats: false,
+    only: true,
+};
+
+// What `check` wants.
+const CHECK: Wanted = Wanted {
+    form: "check MESH",
+    files: 1,
+    formats: true,
+    only: false,
+};
+
+// What the command of a name wants, if it takes files.
+fn wanted_by(command: &str) -> Option<Wanted> {
+    match command {
+        "track" => Some(TRACK),
+        "convert" => Some(CONVERT),
+        "measure" => Some(MEASURE),
+        "prove" => Some(PROVE),
+        "verify" => Some(VERIFY),
+        "replay" => Some(REPLAY),
+        "check" => Some(CHECK),
+        _ => None,
     }
 }
 
 // Says that the ending of a word picks no format.
-fn ending_fault(word: &str) -> Sentence<'_> {
-    let text = if has_format_in_capitals(word.as_bytes()) {
-        "{word} ends neither in .obj nor in .off nor in .ply: an ending counts in small letters alone, so rename the file"
+fn ending_reason(alloc: Global, word: &str) -> Result<String, AllocError> {
+    let hint = if has_format_in_capitals(word.as_bytes()) {
+        ": an ending counts in small letters alone, so rename the file"
     } else {
-        "{word} ends neither in .obj nor in .off nor in .ply"
+        ""
     };
-    Sentence::of_one(text, Value::Quoted(word))
+    format!(in alloc; "{word:?} ends neither in .obj nor in .off nor in .ply{hint}")
 }
 
 // Says what is wrong with a word as the name of a file, if anything is; so many stand before it.
-fn file_fault(wanted: Wanted, before: u64, word: &str) -> Option<Sentence<'_>> {
-    if before >= wanted.files {
-        let text = if wanted.only {
-            "{word} is a word too many: after the files of `topo {form}` only `--large`, `--decimals N` and `--only K` may stand"
-        } else {
-            "{word} is a word too many: after the files of `topo {form}` only `--large` and `--decimals N` may stand"
-        };
-        let form = Value::Text(wanted.form);
-        return Some(Sentence::of_two(text, Value::Quoted(word), form));
-    }
-    if !is_file_word(word) {
-        return Some(Sentence::of_one(
-            "{word} is no name of a file here: it is empty, or has a dash in front",
-            Value::Quoted(word),
-        ));
-    }
-    (wanted.formats && !has_format(word.as_bytes())).then_some(ending_fault(word))
-}
-
-// Takes the name of a file, and says what is wrong with it, if anything is.
-fn file_fault_of<'a>(wanted: Wanted, seen: &mut Seen, word: &'a str) -> Option<Sentence<'a>> {
-    let before = seen.files;
-    seen.files = before.saturating_add(1);
-    file_fault(wanted, before, word)
-}
-
-// Takes a word that may be an option with nothing behind it, or the name of a file, and says what is wrong with it, if anything is.
-fn option_or_file_fault<'a>(
+fn file_reason(
+    alloc: Global,
     wanted: Wanted,
-    seen: &mut Seen,
-    word: &'a str,
-) -> Option<Sentence<'a>> {
-    match word {
-        "--large" => return given("--large", &mut seen.large),
-        "--" => seen.awaited = Awaited::File,
-        "--decimals" => seen.awaited = Awaited::Value(Named::Decimals),
-        "--only" if wanted.only => seen.awaited = Awaited::Value(Named::Only),
-        _ if word.starts_with('-') && word.len() > 1 => return Some(unknown(wanted, word)),
-        _ => return file_fault_of(wanted, seen, word),
+    before: usize,
+    word: &str,
+) -> Result<Option<String>, AllocError> {
+    let form = wanted.form;
+    if before >= wanted.files {
+        let options = if wanted.only {
+            "`--large`, `--decimals N` and `--only K`"
+        } else {
+            "`--large` and `--decimals N`"
+        };
+        let said = format!(in alloc;
+            "{word:?} is a word too many: after the files of `topo {form}` only {options} may stand"
+        )?;
+        return Ok(Some(said));
     }
-    None
+    if !is_file_word(word.as_bytes()) {
+        let said = format!(in alloc;
+            "{word:?} is no name of a file here: it is empty, or has a dash in front"
+        )?;
+        return Ok(Some(said));
+    }
+    if wanted.formats && !has_format(word.as_bytes()) {
+        return Ok(Some(ending_reason(alloc, word)?));
+    }
+    Ok(None)
 }
 
-// Takes a word where an option may stand, and says what is wrong with it, if anything is.
-fn any_fault<'a>(wanted: Wanted, seen: &mut Seen, word: &'a str) -> Option<Sentence<'a>> {
-    if let Some(digit) = word.strip_prefix("--decimals=") {
-        return value_fault(seen, Named::Decimals, digit);
-    }
-    match word.strip_prefix("--only=") {
-        Some(number) if wanted.only => value_fault(seen, Named::Only, number),
-        _ => option_or_file_fault(wanted, seen, word),
-    }
-}
-
-// Takes a word behind `--`, and says what is wrong with it, if anything is.
-fn behind_dashes_fault<'a>(wanted: Wanted, seen: &mut Seen, word: &'a str) -> Option<Sentence<'a>> {
+// Says what is wrong with a word behind `--` as the name of a file, if anything is.
+fn behind_dashes_reason(
+    alloc: Global,
+    wanted: Wanted,
+    before: usize,
+    word: &str,
+) -> Result<Option<String>, AllocError> {
     if word.starts_with('-') {
-        return Some(Sentence::of_one(
-            "{word} stands after `--`, where names of files stand alone, and it has a dash in front",
-            Value::Quoted(word),
-        ));
+        let said = format!(in alloc;
+            "{word:?} stands after `--`, where names of files stand alone, and it has a dash in front"
+        )?;
+        return Ok(Some(said));
     }
-    file_fault_of(wanted, seen, word)
+    file_reason(alloc, wanted, before, word)
 }
 
-// Takes a word, and says what is wrong with it, if anything is. Options may stand before the files, among them and behind them.
-fn word_fault<'a>(wanted: Wanted, seen: &mut Seen, word: &'a str) -> Option<Sentence<'a>> {
-    match seen.awaited {
-        Awaited::Value(named) => value_fault(seen, named, word),
-        Awaited::File => behind_dashes_fault(wanted, seen, word),
-        Awaited::Any => any_fault(wanted, seen, word),
-    }
-}
-
-// The verb for so many words.
-fn are(count: u64) -> Value<'static> {
-    Value::Text(if count == 1 { "is" } else { "are" })
-}
-
-// Says what is lacking at the end of the words.
-fn lacking(wanted: Wanted, seen: Seen) -> Sentence<'static> {
-    if let Awaited::Value(named) = seen.awaited {
-        return Sentence::of(match named {
-            Named::Decimals => "`--decimals` wants a digit from 0 to 6",
-            Named::Only => "`--only` wants the number of a mesh",
-        });
-    }
-    let text = if wanted.files == 1 {
-        "`topo {form}` wants {wants} name of a file, and {files} {are} given"
+// Says that there are too few files.
+fn few_files_reason(alloc: Global, wanted: Wanted, files: usize) -> Result<String, AllocError> {
+    let (form, wants, are) = (wanted.form, wanted.files, are(files));
+    let names = if wants == 1 {
+        "name of a file"
     } else {
-        "`topo {form}` wants {wants} names of files, and {files} {are} given"
+        "names of files"
     };
-    let (form, wants) = (Value::Text(wanted.form), Value::Number(wanted.files));
-    Sentence::of_four(
-        text,
-        [form, wants, Value::Number(seen.files), are(seen.files)],
-    )
+    format!(in alloc; "`topo {form}` wants {wants} {names}, and {files} {are} given")
 }
 
 // Says what is wrong with the words behind a command that takes files: it tells the first word that is at fault, in the order in which they
 // are taken, or what is lacking at their end.
-fn files_fault(wanted: Wanted, words: &[String]) -> Sentence<'_> {
-    let mut seen = Seen {
-        awaited: Awaited::Any,
-        files: 0,
-        large: false,
-        decimals: false,
-        only: false,
-    };
+fn files_reason(alloc: Global, wanted: Wanted, words: &[String]) -> Result<String, AllocError> {
+    let mut awaited = Awaited::Any;
+    let mut files: usize = 0;
+    let mut has_large = false;
+    let mut has_decimals = false;
+    let mut has_only = false;
     for word in words {
-        if let Some(fault) = word_fault(wanted, &mut seen, word.as_str()) {
-            return fault;
+        let reason = match taken_as(wanted, awaited, word.as_str()) {
+            Taken::Dashes => {
+                awaited = Awaited::File;
+                None
+            }
+            Taken::Large => {
+                let reason = again_reason(alloc, "--large", has_large)?;
+                has_large = true;
+                reason
+            }
+            Taken::Option(named) => {
+                awaited = Awaited::Value(named);
+                None
+            }
+            Taken::Value(Named::Decimals, digit) => {
+                let reason = value_reason(alloc, Named::Decimals, digit, has_decimals)?;
+                awaited = Awaited::Any;
+                has_decimals = true;
+                reason
+            }
+            Taken::Value(Named::Only, number) => {
+                let reason = value_reason(alloc, Named::Only, number, has_only)?;
+                awaited = Awaited::Any;
+                has_only = true;
+                reason
+            }
+            Taken::Unknown(word) => Some(unknown_reason(alloc, wanted, word)?),
+            Taken::File(word) => {
+                let reason = if awaited == Awaited::File {
+                    behind_dashes_reason(alloc, wanted, files, word)?
+                } else {
+                    file_reason(alloc, wanted, files, word)?
+                };
+                files = files.saturating_add(1);
+                reason
+            }
+        };
+        if let Some(reason) = reason {
+            return Ok(reason);
         }
     }
-    lacking(wanted, seen)
+    match awaited {
+        Awaited::Value(Named::Decimals) => {
+            String::from_str(alloc, "`--decimals` wants a digit from 0 to 6")
+        }
+        Awaited::Value(Named::Only) => {
+            String::from_str(alloc, "`--only` wants the number of a mesh")
+        }
+        _ => few_files_reason(alloc, wanted, files),
+    }
 }
 
 // Says what is wrong with a word as a number behind `try`, if anything is; so many stand before it.
-fn number_fault(most_cubes: u8, before: u64, word: &str) -> Option<Sentence<'_>> {
-    let most = u32::from(most_cubes);
-    let text = match before {
-        0 if is_number_in(1, most, word.as_bytes()) => return None,
-        1 if is_number_in(0, u32::MAX, word.as_bytes()) => return None,
-        0 =>
-            "{word} is no N of `topo try N KEY`: N is 1 to {most}, in digits with no needless zero in front",
-        1 =>
-            "{word} is no KEY of `topo try N KEY`: KEY is 0 to 4294967295, in digits with no needless zero in front",
-        _ => "{word} is a word too many: `topo try N KEY` wants two numbers",
-    };
-    let most = Value::Number(u64::from(most));
-    Some(Sentence::of_two(text, Value::Quoted(word), most))
+fn number_reason(
+    alloc: Global,
+    most_cubes: u8,
+    before: usize,
+    word: &str,
+) -> Result<Option<String>, AllocError> {
+    let most_key = u32::MAX;
+    let said = match before {
+        0 if is_number_in(1, u32::from(most_cubes), word.as_bytes()) => return Ok(None),
+        1 if is_number_in(0, most_key, word.as_bytes()) => return Ok(None),
+        0 => format!(in alloc;
+            "{word:?} is no N of `topo try N KEY`: N is 1 to {most_cubes}, in digits with no needless zero in front"
+        ),
+        1 => format!(in alloc;
+            "{word:?} is no KEY of `topo try N KEY`: KEY is 0 to {most_key}, in digits with no needless zero in front"
+        ),
+        _ => format!(in alloc; "{word:?} is a word too many: `topo try N KEY` wants two numbers"),
+    }?;
+    Ok(Some(said))
 }
 
 // Says what is wrong with the words behind `try`: it tells the first that is at fault, or that there are too few.
-fn numbers_fault(most_cubes: u8, words: &[String]) -> Sentence<'_> {
-    let mut numbers: u64 = 0;
+fn numbers_reason(alloc: Global, most_cubes: u8, words: &[String]) -> Result<String, AllocError> {
+    let most_key = u32::MAX;
+    let mut numbers: usize = 0;
     let mut has_dashes = false;
     for word in words {
         let word = word.as_str();
         if word == "--" && !has_dashes {
             has_dashes = true;
-        } else if let Some(fault) = number_fault(most_cubes, numbers, word) {
-            return fault;
+        } else if let Some(reason) = number_reason(alloc, most_cubes, numbers, word)? {
+            return Ok(reason);
         } else {
             numbers = numbers.saturating_add(1);
         }
     }
-    Sentence::of_three(
-        "`topo try N KEY` wants two numbers, and {numbers} {are} given: N is 1 to {most}, KEY is 0 to 4294967295",
-        Value::Number(numbers),
-        are(numbers),
-        Value::Number(u64::from(most_cubes)),
+    let are = are(numbers);
+    format!(in alloc;
+        "`topo try N KEY` wants two numbers, and {numbers} {are} given: N is 1 to {most_cubes}, KEY is 0 to {most_key}"
     )
 }
 
 // Says what is wrong with the word of a command that has no words behind it, or is none.
-fn command_fault(command: &str) -> Sentence<'_> {
-    match command {
-        "--help" | "-h" | "--version" => Sentence::of_one(
-            "{command} stands alone",
-            Value::Text(command),
-        ),
-        _ => Sentence::of_one(
-            "{command} is no command: the commands are `track`, `convert`, `check`, `measure`, `prove`, `verify`, `replay` and `try`",
-            Value::Quoted(command),
-        ),
+fn command_reason(alloc: Global, command: &str) -> Result<String, AllocError> {
+    let bytes = command.as_bytes();
+    if is_word(bytes, b"--help") || is_word(bytes, b"-h") || is_word(bytes, b"--version") {
+        return format!(in alloc; "{command} stands alone");
     }
-}
-
-// Says which word of a command line is at fault.
-fn words_fault(words: &[String], most_cubes: u8) -> Sentence<'_> {
-    let Some((command, others)) = words.split_first() else {
-        return Sentence::of("no command is given");
-    };
-    let command = command.as_str();
-    match wanted_by(command) {
-        Some(wanted) => files_fault(wanted, others),
-        None if command == "try" => numbers_fault(most_cubes, others),
-        None => command_fault(command),
-    }
+    format!(in alloc;
+        "{command:?} is no command: the commands are `track`, `convert`, `check`, `measure`, `prove`, `verify`, `replay` and `try`"
+    )
 }
 
 /// Says which word of a command line is at fault, where the words are of no listed form. N of `try` is at most `most_cubes`.
 pub fn words_reason(alloc: Global, words: &[String], most_cubes: u8) -> Result<String, AllocError> {
-    told(alloc, &[words_fault(words, most_cubes)])
+    let Some((command, others)) = words.split_first() else {
+        return String::from_str(alloc, "no command is given");
+    };
+    let command = command.as_str();
+    if let Some(wanted) = wanted_by(command) {
+        return files_reason(alloc, wanted, others);
+    }
+    if is_word(command.as_bytes(), b"try") {
+        return numbers_reason(alloc, most_cubes, others);
+    }
+    command_reason(alloc, command)
 }

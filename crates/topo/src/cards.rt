@@ -3,7 +3,7 @@ use crate::no_memory;
 use card_files::{Asked, CardDesk, card_reason, difference_reason};
 use grid_base::STANDARD_TEXT;
 use job_card::{Card, FileMark, Part, Version, card_text, read_card};
-use outside_io::{Desk, FetchFault, FileDesk, StoreFault, Trouble};
+use outside_io::{Desk, FetchFault, FileDesk, StoreFault};
 use refusal_sentences::{long_card_reason, missing_reason, trouble_reason};
 use std::alloc::{AllocError, Global};
 use track_run::Outcome;
@@ -34,14 +34,30 @@ pub(crate) struct CardRefusal {
 }
 
 // Why the file of a card was not had.
-fn unread(alloc: Global, name: &str, fault: FetchFault, trouble: Option<&Trouble>) -> CardRefusal {
-    let (status, why) = match fault {
-        FetchFault::NoMemory => (Outcome::NoMemory.status(), no_memory(alloc)),
-        FetchFault::Failed => (Outcome::DeskFault.status(), trouble_reason(alloc, trouble)),
-        FetchFault::TooLong { .. } => (TOO_LONG, long_card_reason(alloc, name)),
-        FetchFault::Missing => (MISSING, missing_reason(alloc, name)),
-    };
-    CardRefusal { status, why }
+fn unread(
+    alloc: Global,
+    name: &str,
+    fault: FetchFault,
+    trouble: Result<String, AllocError>,
+) -> CardRefusal {
+    match fault {
+        FetchFault::NoMemory => CardRefusal {
+            status: Outcome::NoMemory.status(),
+            why: no_memory(alloc),
+        },
+        FetchFault::Failed => CardRefusal {
+            status: Outcome::DeskFault.status(),
+            why: trouble,
+        },
+        FetchFault::TooLong { .. } => CardRefusal {
+            status: TOO_LONG,
+            why: long_card_reason(alloc, name),
+        },
+        FetchFault::Missing => CardRefusal {
+            status: MISSING,
+            why: missing_reason(alloc, name),
+        },
+    }
 }
 
 // The card of a file.
@@ -49,7 +65,8 @@ fn card_of(alloc: Global, rt: &HostRuntime, name: &str) -> Result<Card, CardRefu
     let mut bytes = Vec::new(alloc);
     let mut files = FileDesk::new(alloc, rt);
     if let Err(fault) = files.fetch(name, STANDARD_TEXT, &mut bytes) {
-        return Err(unread(alloc, name, fault, files.trouble()));
+        let why = trouble_reason(alloc, files.trouble());
+        return Err(unread(alloc, name, fault, why));
     }
     match read_card(bytes.as_slice()) {
         Ok(card) => Ok(card),
@@ -129,18 +146,6 @@ fn made_of(
     })
 }
 
-// Stores a file, and leaves what is known of the mesh that was stored last.
-fn store_beside(
-    name: &str,
-    bytes: &[u8],
-    desk: &mut GuardedDesk<'_, '_, '_, HostRuntime>,
-) -> Result<(), StoreFault> {
-    let stored = desk.desk.stored.take();
-    let result = desk.desk.store(name, bytes);
-    desk.desk.stored = stored;
-    result
-}
-
 // Stores a card, and gives the outcome of the run: the one that it had, or why the card was not stored.
 fn store_card(
     alloc: Global,
@@ -152,7 +157,10 @@ fn store_card(
     let Ok(text) = card_text(alloc, card) else {
         return Outcome::NoMemory;
     };
-    match store_beside(name, text.as_slice(), desk) {
+    let stored = desk.desk.stored.take();
+    let result = desk.desk.store(name, text.as_slice());
+    desk.desk.stored = stored;
+    match result {
         Ok(()) => outcome,
         Err(StoreFault::NoMemory) => Outcome::NoMemory,
         Err(StoreFault::Failed) => Outcome::DeskFault,

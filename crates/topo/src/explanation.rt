@@ -1,13 +1,16 @@
 // Why a job did not end as done, in one sentence.
+ghost use Rattle.std.specs.Prelude.{◌≤◌, length};
+ghost use Rattle.grid_base.specs.declared.TheConstants.{TEXT_MAX};
+
 use line_text::TextFault;
 use mesh_base::{PairName, Scale, ShapeFault, UseWhy};
 use motion_proof::Verdict;
 use outside_io::Trouble;
 use refusal_sentences::{
-    Unproved, and_told, gone_reason, log_text_reason, long_reason, meeting_reason,
-    mesh_text_reason, missing_reason, motion_reason, off_text_reason, output_reason,
-    ply_text_reason, proof_text_reason, replay_reason, shape_reason, step_text_reason,
-    trouble_reason, use_reason, words_reason,
+    Unproved, gone_reason, log_text_reason, long_reason, meeting_reason, mesh_text_reason,
+    missing_reason, motion_reason, off_text_reason, output_reason, ply_text_reason,
+    proof_text_reason, replay_reason, shape_reason, step_text_reason, trouble_reason, use_reason,
+    words_reason,
 };
 use std::alloc::{AllocError, Global};
 use std::io;
@@ -101,7 +104,22 @@ fn motion_sentence(
     motion_reason(alloc, names.other, bytes, line, why)
 }
 
-// What is wrong with the shape of the mesh, and how many of its coordinates were rounded, which may be why.
+// A sentence on the mesh, and how many of its coordinates were rounded, which may be why.
+fn with_rounding(
+    alloc: Global,
+    names: Names<'_>,
+    bytes: &[u8],
+    said: String,
+) -> Result<String, AllocError>
+    requires { length bytes.now ≤ TEXT_MAX }
+{
+    match rounded(alloc, names.format, bytes, names.decimals)? {
+        Some(rounded) => format!(in alloc; "{said}; {rounded}"),
+        None => Ok(said),
+    }
+}
+
+// What is wrong with the shape of the mesh.
 fn shape_sentence(
     alloc: Global,
     names: Names<'_>,
@@ -119,11 +137,10 @@ fn shape_sentence(
         lists.as_ref(),
         fault,
     )?;
-    let rounding = rounded(alloc, names.format, bytes, names.decimals);
-    and_told(alloc, said, rounding)
+    with_rounding(alloc, names, bytes, said)
 }
 
-// Which edge and face of the mesh meet, and how many of its coordinates were rounded.
+// Which edge and face of the mesh meet.
 fn meeting_sentence(
     alloc: Global,
     names: Names<'_>,
@@ -132,8 +149,7 @@ fn meeting_sentence(
 ) -> Result<String, AllocError> {
     let bytes = texts.first(names.mesh);
     let said = meeting_reason(alloc, names.mesh, pair)?;
-    let rounding = rounded(alloc, names.format, bytes, names.decimals);
-    and_told(alloc, said, rounding)
+    with_rounding(alloc, names, bytes, said)
 }
 
 // Why a directive is refused: of a vertex that was there, which line of the log took it away, if one can be told.

@@ -1,6 +1,5 @@
 //! The texts of help: how each command is called.
 ghost use Rattle.std.specs.Prelude.{◌≡◌, true, false, Ok, None, IfOk, IfSome};
-ghost use Rattle.std.specs.Option.{is_some};
 ghost use Rattle.topo.specs.Asked.{is_command};
 
 use clap::{Arg, ArgAction, Command};
@@ -113,150 +112,6 @@ docs/FORMATS.md has all texts. `topo --help` lists the exit statuses.";
 
 const HELD: &str = "The card of the log: nothing is done with another mesh, log or decimals";
 
-const BEGUN: &str = "The Wavefront OBJ file of the mesh that the log began with";
-
-const WRITTEN: &str = "The file of the log, as `track` wrote it";
-
-// An option of a command.
-#[derive(Clone, Copy)]
-enum Given {
-    // `--large`.
-    Large,
-    // `--decimals N`.
-    Decimals,
-    // `--only K`.
-    Only,
-    // `--card FILE`, and what the card is to the command.
-    Card(&'static str),
-}
-
-// How a command is called: its name, the same after the program's, what it does, the words that it has to be given and what each of them is,
-// its options, and what is told behind all this.
-struct Page {
-    name: &'static str,
-    called: &'static str,
-    about: &'static str,
-    words: &'static [(&'static str, &'static str)],
-    options: &'static [Given],
-    behind: &'static str,
-}
-
-static TRACK: Page = Page {
-    name: "track",
-    called: "topo track",
-    about: "Moves and edits a closed triangle mesh, and keeps it free of self-intersections",
-    words: &[
-        ("MESH", "The Wavefront OBJ file of the mesh"),
-        ("STEPS", "The file of the steps"),
-        ("PREFIX", "Meshes are stored as PREFIX-000000.obj and so on"),
-    ],
-    options: &[
-        Given::Large,
-        Given::Decimals,
-        Given::Card("Of which mesh, steps and decimals the log is, is stored in it"),
-    ],
-    behind: STEP_TEXT,
-};
-
-static CONVERT: Page = Page {
-    name: "convert",
-    called: "topo convert",
-    about: "Stores a mesh in another format",
-    words: &[
-        ("FROM", "The file of the mesh"),
-        ("TO", "The file that it is stored in"),
-    ],
-    options: &[Given::Large, Given::Decimals],
-    behind: FORMATS,
-};
-
-static MEASURE: Page = Page {
-    name: "measure",
-    called: "topo measure",
-    about: "Tells what a log did to volume and shape",
-    words: &[("MESH", BEGUN), ("LOG", WRITTEN)],
-    options: &[Given::Large, Given::Decimals, Given::Card(HELD)],
-    behind: MEASURES,
-};
-
-static PROVE: Page = Page {
-    name: "prove",
-    called: "topo prove",
-    about: "Writes a proof that nothing meets in the motions of a log",
-    words: &[("MESH", BEGUN), ("LOG", WRITTEN)],
-    options: &[Given::Large, Given::Decimals, Given::Card(HELD)],
-    behind: PROVES,
-};
-
-static VERIFY: Page = Page {
-    name: "verify",
-    called: "topo verify",
-    about: "Checks a proof that nothing meets in the motions of a log",
-    words: &[
-        ("MESH", BEGUN),
-        ("LOG", WRITTEN),
-        ("PROOF", "The file of the proof"),
-    ],
-    options: &[Given::Large, Given::Decimals, Given::Card(HELD)],
-    behind: VERIFIES,
-};
-
-static REPLAY: Page = Page {
-    name: "replay",
-    called: "topo replay",
-    about: "Makes the meshes of a log again, and stores them",
-    words: &[
-        ("MESH", BEGUN),
-        ("LOG", WRITTEN),
-        ("PREFIX", "Meshes are stored as PREFIX-000000.obj and so on"),
-    ],
-    options: &[
-        Given::Large,
-        Given::Decimals,
-        Given::Only,
-        Given::Card(HELD),
-    ],
-    behind: REPLAYS,
-};
-
-static CHECK: Page = Page {
-    name: "check",
-    called: "topo check",
-    about: "Tells all that is wrong with a mesh",
-    words: &[("MESH", "The file of the mesh")],
-    options: &[Given::Large, Given::Decimals],
-    behind: CHECKS,
-};
-
-static TRY: Page = Page {
-    name: "try",
-    called: "topo try",
-    about: "Makes a job of cubes by a key, runs it, and sums up its log",
-    words: &[
-        ("N", "How many cubes stand in a row"),
-        ("KEY", "Picks how each cube moves"),
-    ],
-    options: &[],
-    behind: SUMMARY,
-};
-
-// How the command of a name is called, if there is one.
-fn page_of(name: &str) -> Option<&'static Page>
-    ensures { is_some result ≡ is_command name.now }
-{
-    match name {
-        "track" => Some(&TRACK),
-        "convert" => Some(&CONVERT),
-        "try" => Some(&TRY),
-        "measure" => Some(&MEASURE),
-        "prove" => Some(&PROVE),
-        "verify" => Some(&VERIFY),
-        "replay" => Some(&REPLAY),
-        "check" => Some(&CHECK),
-        _ => None,
-    }
-}
-
 // A word that has to be given.
 fn word<'a>(alloc: Global, name: &'a str, help: &'a str) -> Arg<'a> {
     Arg::new(alloc, name)
@@ -266,45 +121,176 @@ fn word<'a>(alloc: Global, name: &'a str, help: &'a str) -> Arg<'a> {
         .action(ArgAction::Set)
 }
 
-// An option.
-fn option<'a>(alloc: Global, given: Given) -> Arg<'a> {
-    match given {
-        Given::Large => Arg::new(alloc, "large")
-            .long("large")
-            .help(
-                "The files may be longer than 64 MiB, and the mesh have more than 65536 vertices or 131072 faces",
-            )
-            .action(ArgAction::SetTrue),
-        Given::Decimals => Arg::new(alloc, "decimals")
-            .long("decimals")
-            .value_name("N")
-            .help("A unit of the grid is 10 to the power -N; 0 if it is left out")
-            .value_parser(DIGITS.as_slice()),
-        Given::Only => Arg::new(alloc, "only")
-            .long("only")
-            .value_name("K")
-            .help("Of the meshes of the log, store mesh K alone")
-            .action(ArgAction::Set),
-        Given::Card(help) => Arg::new(alloc, "card")
-            .long("card")
-            .value_name("FILE")
-            .help(help)
-            .action(ArgAction::Set),
-    }
+fn large<'a>(alloc: Global) -> Arg<'a> {
+    Arg::new(alloc, "large")
+        .long("large")
+        .help(
+            "The files may be longer than 64 MiB, and the mesh have more than 65536 vertices or 131072 faces",
+        )
+        .action(ArgAction::SetTrue)
 }
 
-// The command of a page.
-fn command_of(alloc: Global, page: &Page) -> Result<Command<'static>, AllocError> {
-    let mut command = Command::new(alloc, page.name)
-        .about(page.about)
-        .after_help(page.behind);
-    for (name, help) in page.words {
-        command = command.arg(word(alloc, *name, *help))?;
-    }
-    for given in page.options {
-        command = command.arg(option(alloc, *given))?;
-    }
-    command.bin_name(page.called)
+fn decimals<'a>(alloc: Global) -> Arg<'a> {
+    Arg::new(alloc, "decimals")
+        .long("decimals")
+        .value_name("N")
+        .help("A unit of the grid is 10 to the power -N; 0 if it is left out")
+        .value_parser(DIGITS.as_slice())
+}
+
+fn card<'a>(alloc: Global, help: &'a str) -> Arg<'a> {
+    Arg::new(alloc, "card")
+        .long("card")
+        .value_name("FILE")
+        .help(help)
+        .action(ArgAction::Set)
+}
+
+fn track<'a>(alloc: Global) -> Result<Command<'a>, AllocError> {
+    Command::new(alloc, "track")
+        .about("Moves and edits a closed triangle mesh, and keeps it free of self-intersections")
+        .after_help(STEP_TEXT)
+        .arg(word(alloc, "MESH", "The Wavefront OBJ file of the mesh"))?
+        .arg(word(alloc, "STEPS", "The file of the steps"))?
+        .arg(word(
+            alloc,
+            "PREFIX",
+            "Meshes are stored as PREFIX-000000.obj and so on",
+        ))?
+        .arg(large(alloc))?
+        .arg(decimals(alloc))?
+        .arg(card(
+            alloc,
+            "Of which mesh, steps and decimals the log is, is stored in it",
+        ))
+}
+
+fn convert<'a>(alloc: Global) -> Result<Command<'a>, AllocError> {
+    Command::new(alloc, "convert")
+        .about("Stores a mesh in another format")
+        .after_help(FORMATS)
+        .arg(word(alloc, "FROM", "The file of the mesh"))?
+        .arg(word(alloc, "TO", "The file that it is stored in"))?
+        .arg(large(alloc))?
+        .arg(decimals(alloc))
+}
+
+// A command that takes a mesh and a log.
+fn of_log<'a>(
+    alloc: Global,
+    name: &'a str,
+    about: &'a str,
+    behind: &'a str,
+) -> Result<Command<'a>, AllocError> {
+    Command::new(alloc, name)
+        .about(about)
+        .after_help(behind)
+        .arg(word(
+            alloc,
+            "MESH",
+            "The Wavefront OBJ file of the mesh that the log began with",
+        ))?
+        .arg(word(alloc, "LOG", "The file of the log, as `track` wrote it"))
+}
+
+fn measure<'a>(alloc: Global) -> Result<Command<'a>, AllocError> {
+    let about = "Tells what a log did to volume and shape";
+    of_log(alloc, "measure", about, MEASURES)?
+        .arg(large(alloc))?
+        .arg(decimals(alloc))?
+        .arg(card(alloc, HELD))
+}
+
+fn prove<'a>(alloc: Global) -> Result<Command<'a>, AllocError> {
+    let about = "Writes a proof that nothing meets in the motions of a log";
+    of_log(alloc, "prove", about, PROVES)?
+        .arg(large(alloc))?
+        .arg(decimals(alloc))?
+        .arg(card(alloc, HELD))
+}
+
+fn verify<'a>(alloc: Global) -> Result<Command<'a>, AllocError> {
+    let about = "Checks a proof that nothing meets in the motions of a log";
+    of_log(alloc, "verify", about, VERIFIES)?
+        .arg(word(alloc, "PROOF", "The file of the proof"))?
+        .arg(large(alloc))?
+        .arg(decimals(alloc))?
+        .arg(card(alloc, HELD))
+}
+
+fn replay<'a>(alloc: Global) -> Result<Command<'a>, AllocError> {
+    let about = "Makes the meshes of a log again, and stores them";
+    of_log(alloc, "replay", about, REPLAYS)?
+        .arg(word(
+            alloc,
+            "PREFIX",
+            "Meshes are stored as PREFIX-000000.obj and so on",
+        ))?
+        .arg(large(alloc))?
+        .arg(decimals(alloc))?
+        .arg(
+            Arg::new(alloc, "only")
+                .long("only")
+                .value_name("K")
+                .help("Of the meshes of the log, store mesh K alone")
+                .action(ArgAction::Set),
+        )?
+        .arg(card(alloc, HELD))
+}
+
+fn check<'a>(alloc: Global) -> Result<Command<'a>, AllocError> {
+    Command::new(alloc, "check")
+        .about("Tells all that is wrong with a mesh")
+        .after_help(CHECKS)
+        .arg(word(alloc, "MESH", "The file of the mesh"))?
+        .arg(large(alloc))?
+        .arg(decimals(alloc))
+}
+
+fn try_cubes<'a>(alloc: Global) -> Result<Command<'a>, AllocError> {
+    Command::new(alloc, "try")
+        .about("Makes a job of cubes by a key, runs it, and sums up its log")
+        .after_help(SUMMARY)
+        .arg(word(alloc, "N", "How many cubes stand in a row"))?
+        .arg(word(alloc, "KEY", "Picks how each cube moves"))
+}
+
+// How a command is called, under its name after the program's.
+fn rendered<'a>(command: Command<'a>, name: &'a str) -> Result<String, AllocError> {
+    let mut command = command.bin_name(name)?;
+    command.render_help()
+}
+
+fn track_help(alloc: Global) -> Result<String, AllocError> {
+    rendered(track(alloc)?, "topo track")
+}
+
+fn convert_help(alloc: Global) -> Result<String, AllocError> {
+    rendered(convert(alloc)?, "topo convert")
+}
+
+fn try_help(alloc: Global) -> Result<String, AllocError> {
+    rendered(try_cubes(alloc)?, "topo try")
+}
+
+fn measure_help(alloc: Global) -> Result<String, AllocError> {
+    rendered(measure(alloc)?, "topo measure")
+}
+
+fn prove_help(alloc: Global) -> Result<String, AllocError> {
+    rendered(prove(alloc)?, "topo prove")
+}
+
+fn verify_help(alloc: Global) -> Result<String, AllocError> {
+    rendered(verify(alloc)?, "topo verify")
+}
+
+fn replay_help(alloc: Global) -> Result<String, AllocError> {
+    rendered(replay(alloc)?, "topo replay")
+}
+
+fn check_help(alloc: Global) -> Result<String, AllocError> {
+    rendered(check(alloc)?, "topo check")
 }
 
 /// How the command is called; None, where there is no such command.
@@ -312,11 +298,16 @@ pub(crate) fn command_help(alloc: Global, name: &str) -> Result<Option<String>, 
     ensures named { IfOk result (λ help. IfSome help (λ text. is_command name.now ≡ true)) }
     ensures other { result ≡ Ok None → is_command name.now ≡ false }
 {
-    match page_of(name) {
-        None => Ok(None),
-        Some(page) => {
-            let mut command = command_of(alloc, page)?;
-            Ok(Some(command.render_help()?))
-        }
-    }
+    let help = match name {
+        "track" => track_help(alloc)?,
+        "convert" => convert_help(alloc)?,
+        "try" => try_help(alloc)?,
+        "measure" => measure_help(alloc)?,
+        "prove" => prove_help(alloc)?,
+        "verify" => verify_help(alloc)?,
+        "replay" => replay_help(alloc)?,
+        "check" => check_help(alloc)?,
+        _ => return Ok(None),
+    };
+    Ok(Some(help))
 }

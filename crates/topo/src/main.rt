@@ -54,13 +54,6 @@ fn watcher(rt: &HostRuntime) -> Watcher {
     }
 }
 
-// Tells a sentence on a line, behind what stands in front.
-fn tell_line(alloc: Global, rt: &impl Eprint, front: &str, said: &str) {
-    if let Ok(said) = plain(alloc, said) {
-        let _ = eprintln!(rt; "{front}{said}");
-    }
-}
-
 // Tells why the job did not end as done, and the status.
 fn tell_end(
     alloc: Global,
@@ -70,7 +63,9 @@ fn tell_end(
 ) -> ExitCode {
     if status != 0 {
         if let Ok(why) = why {
-            tell_line(alloc, rt, "topo: ", why.as_str());
+            if let Ok(why) = plain(alloc, why.as_str()) {
+                let _ = eprintln!(rt; "topo: {why}");
+            }
         }
         let _ = eprintln!(rt; "topo: status {status}");
     }
@@ -94,7 +89,9 @@ fn end(
 fn warn(alloc: Global, rt: &impl Eprint, warnings: Result<Vec<String>, AllocError>) {
     if let Ok(warnings) = warnings {
         for warning in &warnings {
-            tell_line(alloc, rt, "topo: warning: ", warning.as_str());
+            if let Ok(warning) = plain(alloc, warning.as_str()) {
+                let _ = eprintln!(rt; "topo: warning: {warning}");
+            }
         }
     }
 }
@@ -177,13 +174,13 @@ fn answer_words(rt: &HostRuntime, words: &[String], given: Given<'_>) -> ExitCod
     let sizing = Sizing::new(shipped_band);
     let life = LifeLine::new(alloc, rt, watcher(rt));
     if let Some(cubes) = cubes_of(alloc, words) {
-        tell_cubes(&life, cubes);
+        tell_cubes(alloc, &life, cubes);
     }
     let (files, spared) = (FileDesk::new(alloc, rt), FileDesk::new(alloc, rt));
     let user = UserDesk::new(alloc, rt, given.names, &life, files, spared);
     let mut desk = CardDesk::new(user, given.asked);
     let output = SystemOutput::new(rt);
-    let watch = LogWatch::new(alloc, WatchedSink::new(StdSink::new(&output), &life));
+    let watch = LogWatch::new(alloc, WatchedSink::new(alloc, StdSink::new(&output), &life));
     let mut out = MarkedSink::new(watch, given.card.is_some());
     let outcome = answer(alloc, words, &mut desk, &mut out, &fields, &sizing);
     if let Some(refusal) = other_job(alloc, given.names, given.card, given.asked, desk.part()) {

@@ -2,7 +2,7 @@
 //!
 //! The program has no threads, so it is told where the program passes anyhow: before a part of the work that may take long, and where
 //! lines are written or taken.
-use refusal_sentences::{Sentence, plain, told};
+use refusal_sentences::plain;
 use std::alloc::{AllocError, Global};
 use std::cell::Cell;
 use std::rt::Clock;
@@ -39,21 +39,10 @@ pub struct LifeLine<'a, R> {
 // The first characters of a text, as many as a line may have.
 fn cut(alloc: Global, said: &str) -> Result<String, AllocError> {
     let mut shown = String::new(alloc);
-    let mut count: usize = 0;
-    for c in said.chars() {
-        if count < WIDTH {
-            shown.push(c)?;
-            count += 1;
-        }
+    for c in said.chars().take(WIDTH) {
+        shown.push(c)?;
     }
     Ok(shown)
-}
-
-// What the line has of a sentence.
-fn shown(alloc: Global, said: Sentence<'_>) -> Result<String, AllocError> {
-    let said = told(alloc, &[said])?;
-    let said = plain(alloc, said.as_str())?;
-    cut(alloc, said.as_str())
 }
 
 impl<'a, R: Eprint + Clock> LifeLine<'a, R> {
@@ -89,11 +78,17 @@ impl<'a, R: Eprint + Clock> LifeLine<'a, R> {
     }
 
     /// Tells what is being done, in the place of what was told before.
-    pub fn tell(&self, said: Sentence<'_>) {
+    pub fn tell(&self, said: Result<String, AllocError>) {
         if !self.is_watched() {
             return;
         }
-        if let Ok(said) = shown(self.alloc, said) {
+        let Ok(said) = said else {
+            return;
+        };
+        let Ok(said) = plain(self.alloc, said.as_str()) else {
+            return;
+        };
+        if let Ok(said) = cut(self.alloc, said.as_str()) {
             let _ = eprint!(self.rt; "\r{said}\x1b[K");
             self.is_shown.set(true);
             self.told_at

@@ -37,26 +37,21 @@ pub struct Names<'a> {
     ghost few: { decimals ≤ DECIMALS_MAX },
 }
 
-// The names of a mesh, of what is read behind it, steps or a log, and of what is read last.
-fn read_names<'a>(
-    files: LogFiles<'a>,
-    proof: &'a str,
-    prefix: Option<&'a str>,
-    work: Work,
-) -> Names<'a>
+// The names of a mesh and of a log that is read.
+fn log_names<'a>(files: LogFiles<'a>, prefix: Option<&'a str>) -> Names<'a>
     requires { files.decimals ≤ DECIMALS_MAX }
 {
     Names {
         mesh: files.mesh,
         other: files.log,
-        proof,
+        proof: files.log,
         format: Format::Obj,
         prefix,
         to: None,
         stored: Format::Obj,
         scale: files.scale,
         decimals: files.decimals,
-        work,
+        work: Work::Log,
     }
 }
 
@@ -91,29 +86,39 @@ pub fn names_of(alloc: Global, words: &[String]) -> Option<Names<'_>> {
             prefix,
             scale,
             decimals,
-        } => {
-            let files = LogFiles {
-                mesh,
-                log: steps,
-                scale,
-                decimals,
-            };
-            Some(read_names(files, steps, Some(prefix), Work::Steps))
-        }
+        } => Some(Names {
+            mesh,
+            other: steps,
+            proof: steps,
+            format: Format::Obj,
+            prefix: Some(prefix),
+            to: None,
+            stored: Format::Obj,
+            scale,
+            decimals,
+            work: Work::Steps,
+        }),
         Command::Convert {
             from,
             to,
             scale,
             decimals,
         } => Some(alone(from, Some(to), scale, decimals)),
-        Command::Measure(files) | Command::Prove(files) => {
-            Some(read_names(files, files.log, None, Work::Log))
-        }
-        Command::Verify(given) => Some(read_names(given.files, given.proof, None, Work::Log)),
-        Command::Replay(given) => {
-            let files = given.files;
-            Some(read_names(files, files.log, Some(given.prefix), Work::Log))
-        }
+        Command::Measure(files) => Some(log_names(files, None)),
+        Command::Prove(files) => Some(log_names(files, None)),
+        Command::Verify(given) => Some(Names {
+            mesh: given.files.mesh,
+            other: given.files.log,
+            proof: given.proof,
+            format: Format::Obj,
+            prefix: None,
+            to: None,
+            stored: Format::Obj,
+            scale: given.files.scale,
+            decimals: given.files.decimals,
+            work: Work::Log,
+        }),
+        Command::Replay(given) => Some(log_names(given.files, Some(given.prefix))),
         Command::Check {
             mesh,
             scale,

@@ -1,6 +1,6 @@
 //! Whether standard output goes to a file that the command reads, or to one in whose place it may store another.
 use crate::names::{Names, Work};
-use refusal_sentences::output_file_reason;
+use refusal_sentences::{output_read_reason, output_stored_reason};
 use std::alloc::{AllocError, Global};
 use std::fs;
 use std::fs::read_dir;
@@ -14,7 +14,7 @@ const OUTPUT: &str = "/proc/self/fd/1";
 const DIGITS: usize = 6;
 
 // A file of the system, by the numbers of its device and of its place there.
-#[derive(Clone, Copy)]
+#[derive(Clone, Copy, PartialEq, Eq)]
 struct Place {
     device: u64,
     place: u64,
@@ -34,16 +34,13 @@ fn place_of<R: Files>(rt: &R, name: &str) -> Option<Place> {
 
 // Whether a name leads to a file.
 fn leads_to<R: Files>(rt: &R, name: &str, file: Place) -> bool {
-    match place_of(rt, name) {
-        Some(found) => found.device == file.device && found.place == file.place,
-        None => false,
-    }
+    place_of(rt, name) == Some(file)
 }
 
 // The folder in which the meshes of a prefix are stored, and what stands in front of the dash of their names there.
 fn folder_of(prefix: &str) -> (&str, &str) {
     match prefix.rsplit_once('/') {
-        Some((folder, front)) if folder.is_empty() => ("/", front),
+        Some(("", front)) => ("/", front),
         Some((folder, front)) => (folder, front),
         None => (".", prefix),
     }
@@ -63,13 +60,6 @@ fn is_mesh_name(front: &str, name: &str) -> bool {
     number.len() >= DIGITS && number.as_bytes().iter().all(|digit| digit.is_ascii_digit())
 }
 
-// Two texts, one behind the other.
-fn joined(alloc: Global, front: &str, behind: &str) -> Result<String, AllocError> {
-    let mut whole = String::from_str(alloc, front)?;
-    whole.push_str(behind)?;
-    Ok(whole)
-}
-
 // The name of a mesh of a prefix that leads to a file. What cannot be listed is not looked at.
 fn mesh_at<R: Files + Alloc + Clone + Drop>(
     alloc: Global,
@@ -86,57 +76,75 @@ fn mesh_at<R: Files + Alloc + Clone + Drop>(
         if let Ok(entry) = entry {
             let name = entry.file_name();
             if is_mesh_name(front, name) && leads_to(rt, entry.path().as_str(), file) {
-                return Ok(Some(joined(alloc, ahead, name)?));
+                return Ok(Some(format!(in alloc; "{ahead}{name}")?));
             }
         }
     }
     Ok(None)
 }
 
-// The name of a file that the command is given and that leads to a file, and whether the command may store it; of the card it does that where
-// it makes one.
-fn given_name<'a, R: Files>(
-    rt: &R,
-    names: Names<'a>,
-    card: Option<&'a str>,
-    file: Place,
-) -> Option<(&'a str, bool)> {
-    let given = [
-        (card, names.work == Work::Steps),
-        (Some(names.mesh), false),
-        (Some(names.other), false),
-        (Some(names.proof), false),
-        (names.to, true),
-    ];
-    for (name, is_stored) in given {
-        if let Some(name) = name {
-            if leads_to(rt, name, file) {
-                return Some((name, is_stored));
-            }
-        }
-    }
-    None
-}
-
-/// Says why a command of these names and of this card, if it has one, may not be run with standard output where it goes: to a file that the
-/// command reads, or to one of a name that it may store, the number of a mesh being any; None where it may.
-pub fn output_reason_of<'a, R: Files + Alloc + Clone + Drop>(
+// Says that standard output goes to a file that the command reads, if it does.
+fn read_reason<R: Files>(
     alloc: Global,
     rt: &R,
-    names: Names<'a>,
-    card: Option<&'a str>,
+    names: Names<'_>,
+    file: Place,
 ) -> Result<Option<String>, AllocError> {
-    let Some(file) = place_of(rt, OUTPUT) else {
-        return Ok(None);
-    };
-    if let Some((name, is_stored)) = given_name(rt, names, card, file) {
-        return Ok(Some(output_file_reason(alloc, name, is_stored)?));
+    for name in [names.mesh, names.other, names.proof] {
+        if leads_to(rt, name, file) {
+            return Ok(Some(output_read_reason(alloc, name)?));
+        }
+    }
+    Ok(None)
+}
+
+// Says that standard output goes to a file in whose place the command may store another, if it does.
+fn stored_reason<R: Files + Alloc + Clone + Drop>(
+    alloc: Global,
+    rt: &R,
+    names: Names<'_>,
+    file: Place,
+) -> Result<Option<String>, AllocError> {
+    if let Some(to) = names.to {
+        if leads_to(rt, to, file) {
+            return Ok(Some(output_stored_reason(alloc, to)?));
+        }
     }
     let Some(prefix) = names.prefix else {
         return Ok(None);
     };
     match mesh_at(alloc, rt, prefix, file)? {
-        Some(mesh) => Ok(Some(output_file_reason(alloc, mesh.as_str(), true)?)),
+        Some(mesh) => Ok(Some(output_stored_reason(alloc, mesh.as_str())?)),
         None => Ok(None),
     }
+}
+
+// Says that standard output goes to the card.
+fn card_reason(alloc: Global, names: Names<'_>, card: &str) -> Result<String, AllocError> {
+    match names.work {
+        Work::Steps => output_stored_reason(alloc, card),
+        _ => output_read_reason(alloc, card),
+    }
+}
+
+/// Says why a command of these names and of this card, if it has one, may not be run with standard output where it goes: to a file that the
+/// command reads, or to one of a name that it may store, the number of a mesh being any; None where it may.
+pub fn output_reason_of<R: Files + Alloc + Clone + Drop>(
+    alloc: Global,
+    rt: &R,
+    names: Names<'_>,
+    card: Option<&str>,
+) -> Result<Option<String>, AllocError> {
+    let Some(file) = place_of(rt, OUTPUT) else {
+        return Ok(None);
+    };
+    if let Some(card) = card {
+        if leads_to(rt, card, file) {
+            return Ok(Some(card_reason(alloc, names, card)?));
+        }
+    }
+    if let Some(reason) = read_reason(alloc, rt, names, file)? {
+        return Ok(Some(reason));
+    }
+    stored_reason(alloc, rt, names, file)
 }

@@ -2,7 +2,7 @@
 use crate::life_line::LifeLine;
 use crate::names::{Names, Work};
 use line_text::{Parts, words};
-use refusal_sentences::{Sentence, Value};
+use std::alloc::{AllocError, Global};
 use std::fs;
 use std::rt::{Clock, Files};
 use track_input::Format;
@@ -35,35 +35,45 @@ pub(crate) fn ended_lines(text: &[u8]) -> u64 {
     count
 }
 
+// How large a mesh is, as far as its text tells it at a glance.
+fn size_of(alloc: Global, format: Format, text: &[u8]) -> Result<String, AllocError> {
+    match format {
+        Format::Obj => {
+            let faces = lines_of(b"f", text);
+            format!(in alloc; "{faces} faces")
+        }
+        Format::Off | Format::Ply => {
+            let lines = ended_lines(text);
+            format!(in alloc; "{lines} lines")
+        }
+    }
+}
+
 // That a file is read.
-pub(crate) fn reading(name: &str) -> Sentence<'_> {
-    Sentence::of_one("reading {name}", Value::Text(name))
+pub(crate) fn reading(alloc: Global, name: &str) -> Result<String, AllocError> {
+    format!(in alloc; "reading {name}")
 }
 
 // That a file is stored.
-pub(crate) fn storing(name: &str) -> Sentence<'_> {
-    Sentence::of_one("storing {name}", Value::Text(name))
+pub(crate) fn storing(alloc: Global, name: &str) -> Result<String, AllocError> {
+    format!(in alloc; "storing {name}")
 }
 
-// What is done with the mesh, once all is read, and how large it is, as far as its text tells that at a glance.
-pub(crate) fn working<'w>(names: Names<'w>, mesh: &[u8]) -> Sentence<'w> {
-    let (size, parts) = match names.format {
-        Format::Obj => (lines_of(b"f", mesh), "faces"),
-        Format::Off | Format::Ply => (ended_lines(mesh), "lines"),
-    };
-    let text = match names.work {
-        Work::Steps | Work::Log => "testing {size} {parts} of {name} at rest",
-        Work::Convert => "converting {size} {parts} of {name}",
-        Work::Check => "looking for what is wrong with {size} {parts} of {name}",
-    };
-    let (size, parts) = (Value::Number(size), Value::Text(parts));
-    Sentence::of_three(text, size, parts, Value::Text(names.mesh))
+// What is done with the mesh, once all is read.
+pub(crate) fn working(alloc: Global, names: Names<'_>, mesh: &[u8]) -> Result<String, AllocError> {
+    let size = size_of(alloc, names.format, mesh)?;
+    let name = names.mesh;
+    match names.work {
+        Work::Steps | Work::Log => format!(in alloc; "testing {size} of {name} at rest"),
+        Work::Convert => format!(in alloc; "converting {size} of {name}"),
+        Work::Check => format!(in alloc; "looking for what is wrong with {size} of {name}"),
+    }
 }
 
 // That the lines of the steps or of the log are read.
-pub(crate) fn taking<'w>(name: &'w str, text: &[u8]) -> Sentence<'w> {
-    let lines = Value::Number(ended_lines(text));
-    Sentence::of_two("reading {lines} lines of {name}", lines, Value::Text(name))
+pub(crate) fn taking(alloc: Global, name: &str, text: &[u8]) -> Result<String, AllocError> {
+    let lines = ended_lines(text);
+    format!(in alloc; "reading {lines} lines of {name}")
 }
 
 // Whether it may take long to read what has a name: it is a long file, or none, as a pipe is.
@@ -75,14 +85,8 @@ pub(crate) fn is_long<R: Files>(rt: &R, name: &str) -> bool {
 }
 
 /// Tells that a job of so many cubes along an edge is made and run, where these are many.
-pub fn tell_cubes<R: Eprint + Clock>(life: &LifeLine<'_, R>, cubes: u8) {
+pub fn tell_cubes<R: Eprint + Clock>(alloc: Global, life: &LifeLine<'_, R>, cubes: u8) {
     if cubes >= MANY_CUBES {
-        let cubes = Value::Number(u64::from(cubes));
-        life.tell(Sentence::of_three(
-            "a job of {cubes} * {cubes} * {cubes} cubes is made and run",
-            cubes,
-            cubes,
-            cubes,
-        ));
+        life.tell(format!(in alloc; "a job of {cubes} * {cubes} * {cubes} cubes is made and run"));
     }
 }

@@ -6,8 +6,8 @@ use grid_base::DECIMALS_MAX;
 use mesh_base::MeshLists;
 use obj_text::read_obj;
 use other_text::{read_off, read_ply};
-use refusal_sentences::{Sentence, has_finer_number, has_long_number, rounding_warning};
-use std::alloc::Global;
+use refusal_sentences::{has_finer_number, has_long_number, rounding_warning};
+use std::alloc::{AllocError, Global};
 use track_input::Format;
 
 /// The lists of a text in a format, on a grid of so many decimals; None where it is outside the grammar, or there is no memory.
@@ -43,13 +43,17 @@ pub fn rounded(
     format: Format,
     bytes: &[u8],
     decimals: u8,
-) -> Option<Sentence<'static>>
+) -> Result<Option<String>, AllocError>
     requires { length bytes.now ≤ TEXT_MAX }
 {
     if !has_long_number(bytes, decimals) {
-        return None;
+        return Ok(None);
     }
-    let (lists, fine) = finest(alloc, format, bytes, decimals)?;
-    let is_finer = has_finer_number(bytes, format, fine);
-    rounding_warning(&lists, fine, decimals, is_finer)
+    match finest(alloc, format, bytes, decimals) {
+        Some((lists, fine)) => {
+            let is_finer = has_finer_number(bytes, format, fine);
+            rounding_warning(alloc, &lists, fine, decimals, is_finer)
+        }
+        None => Ok(None),
+    }
 }

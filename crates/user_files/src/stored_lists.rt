@@ -109,18 +109,11 @@ fn behind_space(text: &[u8]) -> Option<&[u8]> {
     }
 }
 
-// The coordinate behind a space, and the rest.
-fn next_coordinate(text: &[u8], decimals: u8) -> Option<(i32, &[u8])>
-    ensures { IfSome result (λ r. unsigned_abs r.0 ≤ BOX) }
-{
-    coordinate_at(behind_space(text)?, decimals)
-}
-
 // The point of a line, behind its first word.
 fn point_of(text: &[u8], decimals: u8) -> Option<Point> {
-    let (x, rest) = next_coordinate(text, decimals)?;
-    let (y, rest) = next_coordinate(rest, decimals)?;
-    let (z, rest) = next_coordinate(rest, decimals)?;
+    let (x, rest) = coordinate_at(behind_space(text)?, decimals)?;
+    let (y, rest) = coordinate_at(behind_space(rest)?, decimals)?;
+    let (z, rest) = coordinate_at(behind_space(rest)?, decimals)?;
     if rest.is_empty() {
         Some(Point { x, y, z })
     } else {
@@ -128,16 +121,11 @@ fn point_of(text: &[u8], decimals: u8) -> Option<Point> {
     }
 }
 
-// The corner behind a space, and the rest.
-fn next_corner(text: &[u8]) -> Option<(u32, &[u8])> {
-    corner_at(behind_space(text)?)
-}
-
 // The corners of a line, behind its first word.
 fn corners_of(text: &[u8]) -> Option<[u32; 3]> {
-    let (a, rest) = next_corner(text)?;
-    let (b, rest) = next_corner(rest)?;
-    let (c, rest) = next_corner(rest)?;
+    let (a, rest) = corner_at(behind_space(text)?)?;
+    let (b, rest) = corner_at(behind_space(rest)?)?;
+    let (c, rest) = corner_at(behind_space(rest)?)?;
     rest.is_empty().then_some([a, b, c])
 }
 

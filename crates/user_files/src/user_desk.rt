@@ -14,7 +14,7 @@ use crate::progress_lines::{
 use crate::rounding::rounded;
 use crate::texts::{Text, Texts};
 use outside_io::{Desk, FetchFault, FileDesk, StoreFault};
-use refusal_sentences::{Sentence, Value, overwriting_warning, plain, told};
+use refusal_sentences::{overwriting_warning, plain};
 use std::alloc::{AllocError, Global};
 use std::fs;
 use std::io::ErrorKind;
@@ -38,48 +38,26 @@ pub struct UserDesk<'a, 'l, 'w, R: Files, D, S> {
 /// The desk of the program: what would be lost goes to the files of the system too.
 pub type SystemDesk<'a, 'l, 'w, R> = UserDesk<'a, 'l, 'w, R, FileDesk<'a, R>, FileDesk<'a, R>>;
 
-// Whether a name leads to a file.
-pub(crate) fn is_file<R: Files>(rt: &R, name: &str) -> bool {
-    match fs::metadata(rt, name) {
-        Ok(about) => about.is_file(),
-        Err(_) => false,
-    }
-}
-
 // Where a name leads to, if that is a file.
 fn path_of<R: Files>(alloc: Global, rt: &R, name: &str) -> Option<String> {
-    if !is_file(rt, name) {
-        return None;
+    match fs::metadata(rt, name) {
+        Ok(about) if about.is_file() => {}
+        _ => return None,
     }
     let path = rt.canonicalize(alloc, name).ok()?;
     Some(path.into_string())
 }
 
-// Whether nothing has a name.
-fn is_free<R: Files>(rt: &R, name: &str) -> bool {
-    fs::symlink_metadata(rt, name).is_err()
-}
-
-// The name under which a file of a name is kept, by how many such names are tried.
-fn kept_name(alloc: Global, name: &str, number: u32) -> Result<String, AllocError> {
-    let text = if number == 1 {
-        "{name}.before"
-    } else {
-        "{name}.before-{number}"
-    };
-    let number = Value::Number(u64::from(number));
-    told(alloc, &[Sentence::of_two(text, Value::Text(name), number)])
-}
-
 // A name that no file has: that of another with an ending.
 fn free_name<R: Files>(alloc: Global, rt: &R, name: &str) -> Result<String, AllocError> {
-    for number in 1..u32::MAX {
-        let kept = kept_name(alloc, name, number)?;
-        if is_free(rt, kept.as_str()) {
-            return Ok(kept);
+    let mut free = format!(in alloc; "{name}.before")?;
+    for number in 2..u32::MAX {
+        if fs::symlink_metadata(rt, free.as_str()).is_err() {
+            return Ok(free);
         }
+        free = format!(in alloc; "{name}.before-{number}")?;
     }
-    kept_name(alloc, name, u32::MAX)
+    Ok(free)
 }
 
 // What is done with a text before a store takes its place: under which name it is kept, if it is, and what is told behind the store.
@@ -89,17 +67,37 @@ struct Spared {
     warning: String,
 }
 
-// How many coordinates of a text are rounded by a store of the mesh, if it is the mesh and any are. What else is lost of it, such as comments,
-// and what is lost of steps or of a log, cannot be told.
-fn rounded_in(alloc: Global, names: Option<Names<'_>>, text: &Text) -> Option<Sentence<'static>> {
-    let names = names?;
-    if names.mesh != text.name.as_str() {
-        return None;
-    }
-    rounded(alloc, names.format, text.bytes.as_slice(), names.decimals)
+// What a store takes of a text: nothing, where it stores the same bytes; coordinates that are rounded, in this sentence, and what else the
+// text had, such as comments; or what cannot be told, as of steps or of colours.
+#[derive(Drop)]
+enum Loss {
+    Nothing,
+    Rounded(String),
+    Other,
 }
 
-// What is done with a text before a store takes its place: it is kept, but where the store has the same bytes.
+// The loss of a text by a store of these bytes.
+fn loss_of(
+    alloc: Global,
+    names: Option<Names<'_>>,
+    text: &Text,
+    bytes: &[u8],
+) -> Result<Loss, AllocError> {
+    if text.bytes.as_slice() == bytes {
+        return Ok(Loss::Nothing);
+    }
+    match names {
+        Some(names) if names.mesh == text.name.as_str() => {
+            match rounded(alloc, names.format, text.bytes.as_slice(), names.decimals)? {
+                Some(said) => Ok(Loss::Rounded(said)),
+                None => Ok(Loss::Other),
+            }
+        }
+        _ => Ok(Loss::Other),
+    }
+}
+
+// What is done with a text before a store takes its place.
 fn plan_for<R: Files>(
     alloc: Global,
     rt: &R,
@@ -108,7 +106,8 @@ fn plan_for<R: Files>(
     name: &str,
     bytes: &[u8],
 ) -> Result<Spared, AllocError> {
-    if text.bytes.as_slice() == bytes {
+    let loss = loss_of(alloc, names, text, bytes)?;
+    if let Loss::Nothing = loss {
         let warning = overwriting_warning(alloc, name, None, None)?;
         return Ok(Spared {
             kept: None,
@@ -116,7 +115,10 @@ fn plan_for<R: Files>(
         });
     }
     let kept = free_name(alloc, rt, name)?;
-    let lost = rounded_in(alloc, names, text);
+    let lost = match &loss {
+        Loss::Rounded(said) => Some(said.as_str()),
+        _ => None,
+    };
     let warning = overwriting_warning(alloc, name, Some(kept.as_str()), lost)?;
     Ok(Spared {
         kept: Some(kept),
@@ -169,17 +171,7 @@ impl<'a, 'l, 'w, R: Files + Eprint + Clock, D: ExactDesk, S: ExactDesk> UserDesk
     // Tells that a file is read, where that may take long.
     fn tell_fetch(&self, name: &str) {
         if self.life.is_watched() && is_long(self.rt, name) {
-            self.life.tell(reading(name));
-        }
-    }
-
-    // Notes how far the work has to come.
-    fn note_work(&self, names: Names<'_>) {
-        let other = self.texts.last(names.other);
-        match names.work {
-            Work::Steps => self.life.steps.set(lines_of(b"step", other)),
-            Work::Log => self.life.lines.set(ended_lines(other)),
-            Work::Convert | Work::Check => {}
+            self.life.tell(reading(self.alloc, name));
         }
     }
 
@@ -191,19 +183,23 @@ impl<'a, 'l, 'w, R: Files + Eprint + Clock, D: ExactDesk, S: ExactDesk> UserDesk
         if !self.life.is_watched() || name != names.proof {
             return;
         }
-        self.note_work(names);
         let (mesh, other) = (self.texts.first(names.mesh), self.texts.last(names.other));
+        match names.work {
+            Work::Steps => self.life.steps.set(lines_of(b"step", other)),
+            Work::Log => self.life.lines.set(ended_lines(other)),
+            Work::Convert | Work::Check => {}
+        }
         if mesh.len() >= LONG {
-            self.life.tell(working(names, mesh));
+            self.life.tell(working(self.alloc, names, mesh));
         } else if other.len() >= LONG {
-            self.life.tell(taking(names.other, other));
+            self.life.tell(taking(self.alloc, names.other, other));
         }
     }
 
     // Tells that a file is stored, where that may take long.
     fn tell_store(&self, name: &str, bytes: &[u8]) {
         if bytes.len() >= LONG {
-            self.life.tell(storing(name));
+            self.life.tell(storing(self.alloc, name));
         }
     }
 

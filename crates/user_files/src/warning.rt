@@ -6,54 +6,58 @@ use crate::names::Names;
 use crate::rounding::{lists_in, rounded};
 use crate::stored_lists::stored_lists_in;
 use crate::texts::Texts;
-use crate::user_desk::is_file;
 use grid_base::TEXT_MAX;
 use mesh_base::MeshLists;
 use outside_io::{Desk, Ending, FileDesk, TryLock};
-use refusal_sentences::{
-    Sentence, is_inside_out, log_end_warning, manifold_warning, prefix_warning, told,
-};
+use refusal_sentences::{is_inside_out, log_end_warning, manifold_warning, prefix_warning};
 use std::alloc::{AllocError, Global};
 use std::fs;
 use std::rt::Files;
 
-// Adds those warnings that there are.
-fn warn(
-    alloc: Global,
-    warnings: &[Option<Sentence<'_>>],
-    into: &mut Vec<String>,
-) -> Result<(), AllocError> {
-    for warning in warnings {
-        if let Some(warning) = warning {
-            into.push(told(alloc, &[*warning])?)?;
-        }
-    }
+// Adds a warning.
+fn warn(alloc: Global, warning: &str, into: &mut Vec<String>) -> Result<(), AllocError> {
+    into.push(String::from_str(alloc, warning)?)?;
     Ok(())
 }
 
 // The warnings that the surface of a mesh gives.
-fn surface_warnings(lists: &MeshLists) -> [Option<Sentence<'static>>; 2] {
-    [
-        (lists.points.len() == 0).then_some(Sentence::of("the mesh is empty")),
-        is_inside_out(lists).then_some(Sentence::of(
-            "the surface is turned inside out: its volume is below zero",
-        )),
-    ]
+fn surface_warnings(
+    alloc: Global,
+    lists: &MeshLists,
+    into: &mut Vec<String>,
+) -> Result<(), AllocError> {
+    if lists.points.len() == 0 {
+        warn(alloc, "the mesh is empty", into)?;
+    }
+    if is_inside_out(lists) {
+        let said = "the surface is turned inside out: its volume is below zero";
+        warn(alloc, said, into)?;
+    }
+    Ok(())
 }
 
 // The warnings that the end of the directives gives.
-fn ending_warnings(ending: Ending) -> [Option<Sentence<'static>>; 3] {
-    [
-        ending.is_empty.then_some(Sentence::of(
+fn ending_warnings(
+    alloc: Global,
+    ending: Ending,
+    into: &mut Vec<String>,
+) -> Result<(), AllocError> {
+    if ending.is_empty {
+        warn(
+            alloc,
             "there are no steps: mesh 0 is the mesh as it was read",
-        )),
-        ending.is_unsaved.then_some(Sentence::of(
-            "what is done after the last `save` is stored in no mesh",
-        )),
-        ending.asks_in_vain.then_some(Sentence::of(
-            "shifts are requested after the last `step`, and nothing takes them",
-        )),
-    ]
+            into,
+        )?;
+    }
+    if ending.is_unsaved {
+        let unsaved = "what is done after the last `save` is stored in no mesh";
+        warn(alloc, unsaved, into)?;
+    }
+    if ending.asks_in_vain {
+        let vain = "shifts are requested after the last `step`, and nothing takes them";
+        warn(alloc, vain, into)?;
+    }
+    Ok(())
 }
 
 // Whether the words ask for a log to be read.
@@ -73,15 +77,15 @@ where
     R::File: TryLock,
     ensures { IfSome result (λ bytes. length bytes.items ≤ TEXT_MAX) }
 {
-    if !is_file(rt, name) {
-        return None;
+    match fs::metadata(rt, name) {
+        Ok(about) if about.is_file() => {}
+        _ => return None,
     }
     let mut bytes = Vec::new(alloc);
-    let mut files = FileDesk::new(alloc, rt);
-    match files.fetch(name, TEXT_MAX, &mut bytes) {
-        Ok(()) => Some(bytes),
-        Err(_) => None,
-    }
+    FileDesk::new(alloc, rt)
+        .fetch(name, TEXT_MAX, &mut bytes)
+        .ok()?;
+    Some(bytes)
 }
 
 // The lists of the mesh that was stored last.
@@ -112,35 +116,31 @@ where
 {
     if let Some(stored) = stored {
         if let Some(lists) = stored_lists(alloc, names, stored, rt) {
-            let [empty, inside_out] = surface_warnings(&lists);
-            let manifold = manifold_warning(alloc, stored, &lists)?;
-            return warn(alloc, &[empty, inside_out, manifold], into);
+            surface_warnings(alloc, &lists, into)?;
+            if let Some(warning) = manifold_warning(alloc, stored, &lists)? {
+                into.push(warning)?;
+            }
+            return Ok(());
         }
     }
     let given = texts.first(names.mesh);
     match lists_in(alloc, names.format, given, names.decimals) {
-        Some(lists) => warn(alloc, &surface_warnings(&lists), into),
+        Some(lists) => surface_warnings(alloc, &lists, into),
         None => Ok(()),
     }
 }
 
 // The warning that the prefix of the meshes gives.
-fn name_warning<'w, R: Files>(names: Names<'w>, rt: &R) -> Option<Sentence<'w>> {
-    let prefix = names.prefix?;
+fn name_warning<R: Files>(
+    alloc: Global,
+    prefix: &str,
+    rt: &R,
+) -> Result<Option<String>, AllocError> {
     let is_folder = match fs::metadata(rt, prefix) {
         Ok(about) => about.is_dir(),
         Err(_) => false,
     };
-    prefix_warning(prefix, is_folder)
-}
-
-// The warning that the end of a log gives which was read.
-fn log_warning<'w>(words: &[String], names: Names<'w>, texts: &Texts) -> Option<Sentence<'w>> {
-    if reads_log(words) {
-        log_end_warning(names.other, texts.last(names.other))
-    } else {
-        None
-    }
+    prefix_warning(alloc, prefix, is_folder)
 }
 
 /// Says what may be amiss in a job that is done, from the texts that it read and the mesh that it stored last, each of which is read at most
@@ -162,13 +162,23 @@ where
         return Ok(said);
     };
     let given = texts.first(names.mesh);
-    let rounding = rounded(alloc, names.format, given, names.decimals);
-    warn(alloc, &[rounding], &mut said)?;
+    if let Some(warning) = rounded(alloc, names.format, given, names.decimals)? {
+        said.push(warning)?;
+    }
     mesh_warnings(alloc, names, texts, stored, rt, &mut said)?;
     if let Some(ending) = ending {
-        warn(alloc, &ending_warnings(ending), &mut said)?;
+        ending_warnings(alloc, ending, &mut said)?;
     }
-    let log = log_warning(words, names, texts);
-    warn(alloc, &[log, name_warning(names, rt)], &mut said)?;
+    if reads_log(words) {
+        let log = texts.last(names.other);
+        if let Some(warning) = log_end_warning(alloc, names.other, log)? {
+            said.push(warning)?;
+        }
+    }
+    if let Some(prefix) = names.prefix {
+        if let Some(warning) = name_warning(alloc, prefix, rt)? {
+            said.push(warning)?;
+        }
+    }
     Ok(said)
 }

@@ -5,7 +5,7 @@ ghost use Rattle.outside_io.specs.Sink.{appended};
 
 use crate::life_line::LifeLine;
 use outside_io::{Fact, Failed, LineKind, Sink};
-use refusal_sentences::{Sentence, Value};
+use std::alloc::{AllocError, Global};
 use std::rt::Clock;
 
 // After so many more lines that are written it is told again.
@@ -18,6 +18,7 @@ const TAKEN: u32 = 256;
 /// watches or not.
 #[derive(Drop)]
 pub struct WatchedSink<'l, 'a, K, R> {
+    alloc: Global,
     pub sink: K,
     life: &'l LifeLine<'a, R>,
     // how many were written
@@ -29,45 +30,32 @@ pub struct WatchedSink<'l, 'a, K, R> {
 }
 
 // What is told of what was written.
-fn written_so_far(steps: u64, of: u64, lines: u64) -> Sentence<'static> {
-    let (steps_told, of_told) = (Value::Number(steps), Value::Number(of));
-    let lines = Value::Number(lines);
+fn written_so_far(alloc: Global, steps: u64, of: u64, lines: u64) -> Result<String, AllocError> {
     if steps == 0 {
-        Sentence::of_one("lines written: {lines}", lines)
-    } else if steps > of {
-        Sentence::of_two("step {steps}, {lines} lines of the log", steps_told, lines)
-    } else {
-        Sentence::of_three(
-            "step {steps} of {of}, {lines} lines of the log",
-            steps_told,
-            of_told,
-            lines,
-        )
+        return format!(in alloc; "lines written: {lines}");
     }
+    if steps > of {
+        return format!(in alloc; "step {steps}, {lines} lines of the log");
+    }
+    format!(in alloc; "step {steps} of {of}, {lines} lines of the log")
 }
 
 // What is told of what was taken.
-fn taken_so_far(taken: u64, of: u64) -> Sentence<'static> {
+fn taken_so_far(alloc: Global, taken: u64, of: u64) -> Result<String, AllocError> {
+    if taken > of {
+        return format!(in alloc; "{taken} lines of the log are taken");
+    }
     let percent = taken.saturating_mul(100) / of.max(1);
-    let text = if taken > of {
-        "{taken} lines of the log are taken"
-    } else {
-        "{taken} of {of} lines of the log are taken ({percent} %)"
-    };
-    Sentence::of_three(
-        text,
-        Value::Number(taken),
-        Value::Number(of),
-        Value::Number(percent),
-    )
+    format!(in alloc; "{taken} of {of} lines of the log are taken ({percent} %)")
 }
 
 impl<'l, 'a, K: Sink, R: Eprint + Clock> WatchedSink<'l, 'a, K, R> {
     /// A sink that passes all on to this one, and has told nothing.
-    pub fn new(sink: K, life: &'l LifeLine<'a, R>) -> Self
+    pub fn new(alloc: Global, sink: K, life: &'l LifeLine<'a, R>) -> Self
         ensures { result.sink ≡ sink }
     {
         WatchedSink {
+            alloc,
             sink,
             life,
             steps: 0,
@@ -87,7 +75,8 @@ impl<'l, 'a, K: Sink, R: Eprint + Clock> WatchedSink<'l, 'a, K, R> {
         if is_step || self.lines >= self.told.saturating_add(WRITTEN) || self.life.is_due() {
             self.told = self.lines;
             let of = self.life.steps.get();
-            self.life.tell(written_so_far(self.steps, of, self.lines));
+            self.life
+                .tell(written_so_far(self.alloc, self.steps, of, self.lines));
         }
     }
 
@@ -98,7 +87,8 @@ impl<'l, 'a, K: Sink, R: Eprint + Clock> WatchedSink<'l, 'a, K, R> {
         if lines >= self.taken.saturating_add(TAKEN) || self.life.is_due() {
             self.taken = lines;
             let of = self.life.lines.get();
-            self.life.tell(taken_so_far(u64::from(lines), of));
+            self.life
+                .tell(taken_so_far(self.alloc, u64::from(lines), of));
         }
     }
 
