@@ -13,7 +13,7 @@ use Rattle.outside_io.specs.Outside.{Around, Counts, OnlyLooks}
 use Rattle.outside_io.specs.World.{Contents}
 use Rattle.outside_io.proofs.Outsides.{counts_then, counts_stopped}
 use Rattle.track_input.specs.Words.{MeshName}
-use Rattle.track_convert.specs.declared.file_lists.Found.{Found}
+use Rattle.track_convert.specs.declared.file_lists.FileLists.{FileLists}
 use Rattle.track_convert.specs.Conversion.{found_by}
 use Rattle.track_convert.specs.Finding.{found_view, Finds}
 use Rattle.track_convert.specs.Endings.{FilesAtFault, Ends}
@@ -28,7 +28,7 @@ same_but name (Some before) (Some after) e = let same : after ≡ before = cc in
 
 module _ (scale : Scale) (from to : MeshName) (decimals : ℕ) (a b : Around) where
   -- the file was found
-  pub found_ends : (p : Result Found Stop) → OnlyLooks a b p → (x found : Found) → x ≡ found → Finds scale a.world.holds.files from decimals x → (c : Around) (result : Result (Option Refusal) Stop)
+  pub found_ends : (p : Result FileLists Stop) → OnlyLooks a b p → (x found : FileLists) → x ≡ found → Finds scale a.world.holds.files from decimals x → (c : Around) (result : Result (Option Refusal) Stop)
       → Ends to decimals (found_view found) result b.world.holds c.world.holds → Counts b c result → Converts scale from to decimals result a.world c.world
   found_ends p looks x found e finds c result ends counts =
       let P : Contents → Type 0 = λ holds. Ends to decimals (found_view found) result holds c.world.holds in
@@ -47,7 +47,7 @@ module _ (scale : Scale) (from to : MeshName) (decimals : ℕ) (a b : Around) wh
   stopped_so DeskFault found kept no_sink = record { written = ap (λ (h : Contents). h.written) kept; files = at_fault found (ap (λ (h : Contents). h.files) kept) }
   stopped_so SinkFault found kept no_sink = absurd (no_sink refl)
 
-  pub stopped_ends : (stop : Stop) → OnlyLooks {T = Found} a b (Err stop) → Converts scale from to decimals (Err stop) a.world b.world
+  pub stopped_ends : (stop : Stop) → OnlyLooks {T = FileLists} a b (Err stop) → Converts scale from to decimals (Err stop) a.world b.world
   stopped_ends stop looks =
       let some = some_conversion scale a.world.holds.files from decimals in
       converts scale from to decimals a.world b.world some.0 (Err stop) some.1

@@ -11,8 +11,8 @@ use Rattle.track_input.specs.Fetched.{source_of}
 use Rattle.track_input.specs.Source.{Source, Bytes, Absent, TooLong, IsSource}
 use Rattle.track_input.specs.Words.{MeshName}
 use Rattle.track_input.proofs.Sources.{some_source}
-use Rattle.track_convert.specs.declared.file_lists.Found.{Found}
-use Rattle.track_convert.specs.declared.file_lists.Found.TheVariants as found
+use Rattle.track_convert.specs.declared.file_lists.FileLists.{FileLists}
+use Rattle.track_convert.specs.declared.file_lists.FileLists.TheVariants as found
 use Rattle.track_convert.specs.Conversion.{Conversion, IsConversion}
 use Rattle.track_convert.specs.Finding.{Finds, Reads}
 
@@ -36,7 +36,7 @@ module _ (scale : Scale) (files : Option Files) (from : MeshName) (decimals : �
   pub finds_long : (f : Fetched) (seen : ℕ) → f ≡ fetched.TooLong seen → IsSource scale files from.name (source_of f) → Finds scale files from decimals (found.No (refusal.Long file.Mesh seen))
   finds_long f seen e h = record { conversion = conversion_of (TooLong seen); is_conversion = is_conversion_of (TooLong seen) (source_at f (fetched.TooLong seen) e h); given = refl; good = tt }
 
-  pub finds_read : (f : Fetched) (bytes : List ℕ) → source_of f ≡ Bytes bytes → IsSource scale files from.name (source_of f) → (r : Found) → Reads scale from.format decimals bytes r → Finds scale files from decimals r
+  pub finds_read : (f : Fetched) (bytes : List ℕ) → source_of f ≡ Bytes bytes → IsSource scale files from.name (source_of f) → (r : FileLists) → Reads scale from.format decimals bytes r → Finds scale files from decimals r
   finds_read f bytes e h r reads = record {
     conversion = conversion_of (Bytes bytes);
     is_conversion = is_conversion_of (Bytes bytes) (let P : Source → Type 0 = λ s. IsSource scale files from.name s in subst P e h);

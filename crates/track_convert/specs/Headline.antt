@@ -1,12 +1,15 @@
 -- The headline: what a conversion does.
 use Rattle.std.specs.Prelude.{◌≡◌, ◌⊎◌, ℕ, Option, None, Result, Ok, Err}
+use Rattle.in_out.specs.InOut.{InOut}
 use Rattle.mesh_base.specs.declared.limits.Scale.{Scale}
 use Rattle.log_text.specs.declared.Refusal.{Refusal}
 use Rattle.outside_io.specs.declared.stop.Stop.{Stop}
 use Rattle.outside_io.specs.declared.stop.Stop.TheVariants.{NoMemory}
 use Rattle.outside_io.specs.Causes.{Rose}
-use Rattle.outside_io.specs.Outside.{HasCauses}
+use Rattle.outside_io.specs.Outside.{Around, HasCauses, InWorld}
 use Rattle.outside_io.specs.World.{World}
+use Rattle.track_input.specs.declared.MeshFile.{MeshFile}
+use Rattle.track_input.specs.Named.{mesh_name}
 use Rattle.track_input.specs.Words.{MeshName}
 use Rattle.track_convert.specs.Conversion.{Conversion, IsConversion, found_by}
 use Rattle.track_convert.specs.Endings.{Ends}
@@ -42,3 +45,9 @@ pub record Converts (scale : Scale) (from to : MeshName) (decimals : ℕ)
   pub caused : IsCaused conversion result
   pub complete : IsComplete scale from decimals result old new
   pub faults : HasCauses old new result
+
+-- That of a call that is handed what is outside and the two files.
+abbrev pub ConvertsFile : {O : Type 0} → (O → Around) → InOut O → Scale → MeshFile → MeshFile → ℕ →
+    Result (Option Refusal) Stop → Type 0
+ConvertsFile around outside scale from to decimals result =
+    InWorld around outside (Converts scale (mesh_name from) (mesh_name to) decimals result)

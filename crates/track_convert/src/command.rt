@@ -8,9 +8,9 @@ ghost use Rattle.track_input.specs.Words.{MeshName};
 ghost use Rattle.track_input.specs.Named.{mesh_name};
 ghost use Rattle.track_convert.specs.Conversion.{converted_line};
 ghost use Rattle.track_convert.specs.Endings.{Ends};
-ghost use Rattle.track_convert.specs.Headline.{Converts};
+ghost use Rattle.track_convert.specs.Headline.{ConvertsFile};
 
-use crate::file_lists::{Found, find};
+use crate::file_lists::{FileLists, find};
 use crate::formats::text_of_lists;
 use grid_base::NoMemory;
 use line_text::{Field, put_line};
@@ -95,12 +95,11 @@ pub fn convert<O: Outside>(
     outside: &mut O,
 ) -> Result<Option<Refusal>, Stop>
     requires few { decimals ≤ DECIMALS_MAX }
-    ensures headline { Converts scale (mesh_name from.entry) (mesh_name to.entry) decimals result
-        (O.around outside.old).world (O.around outside.new).world }
+    ensures headline { ConvertsFile O.around outside scale from.entry to.entry decimals result }
     ensures same { (O.around outside.new).sides ≡ (O.around outside.old).sides }
 {
     match find(alloc, scale, from, decimals, outside)? {
-        Found::No(why) => refuse(alloc, &why, outside),
-        Found::Lists(lists) => store_and_tell(alloc, scale, to, decimals, &lists, outside),
+        FileLists::No(why) => refuse(alloc, &why, outside),
+        FileLists::Lists(lists) => store_and_tell(alloc, scale, to, decimals, &lists, outside),
     }
 }

@@ -16,7 +16,7 @@ use track_input::{Format, MeshFile, fetch_text};
 
 // What a mesh file gives.
 #[derive(Drop)]
-pub(crate) enum Found {
+pub(crate) enum FileLists {
     // The first refusal that applies, in the order in which the work is done.
     No(Refusal),
     // Lists of good shape.
@@ -30,7 +30,7 @@ fn read_all(
     format: Format,
     bytes: &[u8],
     decimals: u8,
-) -> Result<Found, NoMemory>
+) -> Result<FileLists, NoMemory>
     requires few { decimals ≤ DECIMALS_MAX }
     requires small { length bytes.now ≤ TEXT_MAX }
     ensures { IfOk result (Reads scale format decimals bytes.now) }
@@ -38,12 +38,12 @@ fn read_all(
     let lists = match read_lists(alloc, format, bytes, decimals) {
         Ok(lists) => lists,
         Err(ReadFault::NoMemory) => return Err(NoMemory),
-        Err(ReadFault::Text(fault)) => return Ok(Found::No(Refusal::Mesh(fault))),
+        Err(ReadFault::Text(fault)) => return Ok(FileLists::No(Refusal::Mesh(fault))),
     };
     match shape(alloc, scale, &lists) {
-        Ok(()) => Ok(Found::Lists(lists)),
+        Ok(()) => Ok(FileLists::Lists(lists)),
         Err(ShapeRefusal::NoMemory) => Err(NoMemory),
-        Err(ShapeRefusal::Shape(fault)) => Ok(Found::No(Refusal::Shape(fault))),
+        Err(ShapeRefusal::Shape(fault)) => Ok(FileLists::No(Refusal::Shape(fault))),
     }
 }
 
@@ -54,7 +54,7 @@ pub(crate) fn find<O: Outside>(
     from: MeshFile<'_>,
     decimals: u8,
     outside: &mut O,
-) -> Result<Found, Stop>
+) -> Result<FileLists, Stop>
     requires few { decimals ≤ DECIMALS_MAX }
     ensures finds { let files = (O.around outside.old).world.holds.files in
         IfOk result (Finds scale files (mesh_name from.entry) decimals) }
@@ -63,12 +63,12 @@ pub(crate) fn find<O: Outside>(
     let bytes = match fetch_text(alloc, scale, outside, from.name)? {
         Fetched::Bytes(bytes) => bytes,
         Fetched::Absent => {
-            return Ok(Found::No(Refusal::Missing {
+            return Ok(FileLists::No(Refusal::Missing {
                 file: FileWord::Mesh,
             }));
         }
         Fetched::TooLong(seen) => {
-            return Ok(Found::No(Refusal::Long {
+            return Ok(FileLists::No(Refusal::Long {
                 file: FileWord::Mesh,
                 seen,
             }));

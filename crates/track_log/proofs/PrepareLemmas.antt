@@ -43,8 +43,8 @@ use Rattle.track_log.specs.declared.inputs.FetchedLog.{FetchedLog}
 use Rattle.track_log.specs.declared.inputs.FetchedLog.TheVariants as fetched
 use Rattle.track_log.specs.declared.inputs.Texts.{Texts}
 use Rattle.track_log.specs.declared.inputs.Texts.TheVariants as texts
-use Rattle.track_log.specs.declared.inputs.Prepared.{Prepared}
-use Rattle.track_log.specs.declared.inputs.Prepared.TheVariants as prepared
+use Rattle.track_log.specs.declared.inputs.PreparedLog.{PreparedLog}
+use Rattle.track_log.specs.declared.inputs.PreparedLog.TheVariants as prepared
 use Rattle.track_log.specs.LogJob.{LogJob, IsLogJob, read_of_log, read_of_shape, read_of_lists, read_of_fetched, input_of_test, input_of_read}
 use Rattle.track_log.specs.Fetching.{fetched_by, AreShort, FetchesLog}
 use Rattle.track_log.specs.Preparing.{ReadsLines, ReadsTexts, Tests, ReadsAndTests, PreparesLog}
@@ -117,13 +117,13 @@ tests_meets scale lists lines m pair is some = record {
 pub reads_and_refuses : (scale : Scale) (decimals : ℕ) (mesh log : List ℕ) (why : LogRefusal) → ReadsTexts scale decimals mesh log (texts.No why) → ReadsAndTests scale decimals mesh log (prepared.No why)
 reads_and_refuses scale decimals mesh log why reads = record { input = ap (input_of_read scale) reads.texts; ready = tt }
 
-reads_and_tests : (scale : Scale) (decimals : ℕ) (mesh log : List ℕ) (lists : MeshLists) (lines : List LogLine) (found : Prepared) → ReadsTexts scale decimals mesh log (texts.Yes lists lines) → Tests scale lists lines found → ReadsAndTests scale decimals mesh log found
+reads_and_tests : (scale : Scale) (decimals : ℕ) (mesh log : List ℕ) (lists : MeshLists) (lines : List LogLine) (found : PreparedLog) → ReadsTexts scale decimals mesh log (texts.Yes lists lines) → Tests scale lists lines found → ReadsAndTests scale decimals mesh log found
 reads_and_tests scale decimals mesh log lists lines found reads tests = record {
   input = ap (input_of_read scale) reads.texts ∙ ap (λ m. input_of_test m (met_first m) lines) (same_mesh scale lists) ∙ tests.input;
   ready = tests.ready reads.good.1;
 }
 
-pub reads_answer : (scale : Scale) (decimals : ℕ) (mesh log : List ℕ) (x : Texts) (lists : MeshLists) (lines : List LogLine) (r : Result Prepared NoMemory) → ReadsTexts scale decimals mesh log x → x ≡ texts.Yes lists lines → IfOk r (Tests scale lists lines) → IfOk r (ReadsAndTests scale decimals mesh log)
+pub reads_answer : (scale : Scale) (decimals : ℕ) (mesh log : List ℕ) (x : Texts) (lists : MeshLists) (lines : List LogLine) (r : Result PreparedLog NoMemory) → ReadsTexts scale decimals mesh log x → x ≡ texts.Yes lists lines → IfOk r (Tests scale lists lines) → IfOk r (ReadsAndTests scale decimals mesh log)
 reads_answer scale decimals mesh log x lists lines (Err fault) reads e tests = tt
 reads_answer scale decimals mesh log x lists lines (Ok found) reads e tests = reads_and_tests scale decimals mesh log lists lines found (subst (ReadsTexts scale decimals mesh log) e reads) tests
 
@@ -200,7 +200,7 @@ module _ (files : Option Files) (names : LogNames) where
   pub short_at : (f : FetchedLog) (mesh log : Vec ℕ Global) → f ≡ fetched.Yes mesh log → FetchesLog files names f → AreShort (fetched.Yes mesh log)
   short_at f mesh log e h = subst AreShort e h.short
 
-  pub prepares_read : (f : FetchedLog) (mesh log : Vec ℕ Global) → f ≡ fetched.Yes mesh log → FetchesLog files names f → (m l : List ℕ) → m ≡ mesh.items → l ≡ log.items → (r : Prepared) → ReadsAndTests names.scale names.decimals m l r → PreparesLog files names r
+  pub prepares_read : (f : FetchedLog) (mesh log : Vec ℕ Global) → f ≡ fetched.Yes mesh log → FetchesLog files names f → (m l : List ℕ) → m ≡ mesh.items → l ≡ log.items → (r : PreparedLog) → ReadsAndTests names.scale names.decimals m l r → PreparesLog files names r
   prepares_read f mesh log e h m l me le r reads = record {
     job = h.job;
     is_job = h.is_job;

@@ -2,6 +2,8 @@
 use Rattle.std.specs.Prelude.{◌≡◌, ◌≤◌, length, Option, Result, Ok, Err}
 use Rattle.grid_base.specs.declared.TheConstants.{TEXT_MAX}
 use Rattle.outside_io.specs.Desk.{Files}
+use Rattle.track_input.specs.declared.LogFiles.{LogFiles}
+use Rattle.track_input.specs.Named.{log_names}
 use Rattle.track_input.specs.Words.{LogNames}
 use Rattle.track_log.specs.declared.refusal.LogRefusal.{LogRefusal}
 use Rattle.track_log.specs.declared.inputs.FetchedLog.{FetchedLog}
@@ -24,3 +26,7 @@ pub record FetchesLog (files : Option Files) (names : LogNames) (found : Fetched
   pub is_job : IsLogJob files names job
   pub fetched : fetched_of job.mesh_file job.log_file ≡ fetched_by found
   pub short : AreShort found
+
+-- the same of the files that a command is given
+abbrev pub FetchesNamed : Option Files → LogFiles → FetchedLog → Type 0
+FetchesNamed files given found = FetchesLog files (log_names given) found

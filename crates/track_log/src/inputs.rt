@@ -1,11 +1,10 @@
 //! A mesh and a log, fetched and read.
 ghost use Rattle.std.specs.Prelude.{◌≡◌, ◌≤◌, length, None, IfOk};
 ghost use Rattle.grid_base.specs.declared.TheConstants.{TEXT_MAX, DECIMALS_MAX};
-ghost use Rattle.outside_io.specs.Outside.{OnlyLooks};
-ghost use Rattle.track_input.specs.Named.{log_names};
+ghost use Rattle.outside_io.specs.Outside.{OnlyLooks, files_before};
 ghost use Rattle.track_input.specs.Reading.{AreGood};
-ghost use Rattle.track_log.specs.Fetching.{FetchesLog};
-ghost use Rattle.track_log.specs.Preparing.{ReadsLines, ReadsTexts, Tests, ReadsAndTests, PreparesLog};
+ghost use Rattle.track_log.specs.Fetching.{FetchesNamed};
+ghost use Rattle.track_log.specs.Preparing.{ReadsLines, ReadsTexts, Tests, ReadsAndTests, PreparesNamed};
 
 use crate::refusal::LogRefusal;
 use grid_base::NoMemory;
@@ -41,7 +40,7 @@ pub enum Texts {
 
 /// What is given of which nothing is refused before the lines of the log are taken, or the first refusal that applies.
 #[derive(Drop)]
-pub enum Prepared {
+pub enum PreparedLog {
     /// The first refusal that applies, in the order in which the work is done.
     No(LogRefusal),
     /// The mesh, of which no edge meets a face that shares no vertex with it, and the lines of the log.
@@ -98,14 +97,14 @@ pub fn test_mesh(
     scale: Scale,
     lists: &MeshLists,
     lines: Log,
-) -> Result<Prepared, NoMemory>
+) -> Result<PreparedLog, NoMemory>
     requires good { AreGood scale lists.now }
     ensures { IfOk result (Tests scale lists.now lines) }
 {
     let mesh = JournalMesh::of(alloc, scale, lists)?;
     match first_meeting(alloc, &mesh)? {
-        None => Ok(Prepared::Yes(mesh, lines)),
-        Some(pair) => Ok(Prepared::No(LogRefusal::Input(Refusal::Meets(pair)))),
+        None => Ok(PreparedLog::Yes(mesh, lines)),
+        Some(pair) => Ok(PreparedLog::No(LogRefusal::Input(Refusal::Meets(pair)))),
     }
 }
 
@@ -116,14 +115,14 @@ fn read_and_test(
     decimals: u8,
     mesh: &[u8],
     log: &[u8],
-) -> Result<Prepared, NoMemory>
+) -> Result<PreparedLog, NoMemory>
     requires few { decimals ≤ DECIMALS_MAX }
     requires mesh_length { length mesh.now ≤ TEXT_MAX }
     requires log_length { length log.now ≤ TEXT_MAX }
     ensures { IfOk result (ReadsAndTests scale decimals mesh.now log.now) }
 {
     match read_texts(alloc, scale, decimals, mesh, log)? {
-        Texts::No(why) => Ok(Prepared::No(why)),
+        Texts::No(why) => Ok(PreparedLog::No(why)),
         Texts::Yes(lists, lines) => test_mesh(alloc, scale, &lists, lines),
     }
 }
@@ -134,8 +133,7 @@ pub fn fetch_log<O: Outside>(
     files: LogFiles<'_>,
     outside: &mut O,
 ) -> Result<FetchedLog, Stop>
-    ensures fetches { let held = (O.around outside.old).world.holds.files in
-        IfOk result (FetchesLog held (log_names files.entry)) }
+    ensures fetches { IfOk result (FetchesNamed (files_before O.around outside) files.entry) }
     ensures looks { OnlyLooks (O.around outside.old) (O.around outside.new) result }
 {
     let mesh = match fetch_text(alloc, files.scale, outside, files.mesh)? {
@@ -170,14 +168,13 @@ pub fn prepare_log<O: Outside>(
     alloc: Global,
     files: LogFiles<'_>,
     outside: &mut O,
-) -> Result<Prepared, Stop>
+) -> Result<PreparedLog, Stop>
     requires few { files.decimals ≤ DECIMALS_MAX }
-    ensures prepares { let held = (O.around outside.old).world.holds.files in
-        IfOk result (PreparesLog held (log_names files.entry)) }
+    ensures prepares { IfOk result (PreparesNamed (files_before O.around outside) files.entry) }
     ensures looks { OnlyLooks (O.around outside.old) (O.around outside.new) result }
 {
     match fetch_log(alloc, files, outside)? {
-        FetchedLog::No(why) => Ok(Prepared::No(why)),
+        FetchedLog::No(why) => Ok(PreparedLog::No(why)),
         FetchedLog::Yes(mesh, log) => Ok(read_and_test(
             alloc,
             files.scale,

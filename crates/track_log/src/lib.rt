@@ -7,7 +7,7 @@ mod output;
 mod refusal;
 mod tested_lines;
 
-pub use inputs::{FetchedLog, Prepared, Texts, fetch_log, prepare_log, read_texts, test_mesh};
+pub use inputs::{FetchedLog, PreparedLog, Texts, fetch_log, prepare_log, read_texts, test_mesh};
 pub use output::{put_text, refuse};
 pub use refusal::LogRefusal;
 pub use tested_lines::take_tested;

@@ -25,7 +25,7 @@ use Rattle.track_log.proofs.Endings.{fits_one_more, before_unfit, one_ending}
 use Rattle.track_measure.specs.declared.measures.MeshShape.{MeshShape}
 use Rattle.track_measure.specs.declared.measures.MeasureLine.{MeasureLine}
 use Rattle.track_measure.specs.declared.measures.MeasureLine.TheVariants.{End}
-use Rattle.track_measure.specs.MeasureLines.{shape_of, told, one_told, lines_from, lines_of_first, measure_lines}
+use Rattle.track_measure.specs.MeasureLines.{shape_of, measure_of_line, one_told, lines_from, lines_of_first, measure_lines}
 use Rattle.track_measure.specs.Texts.{text_of, text_of_all}
 use Rattle.track_measure.specs.Measured.{line_text, MeasuresLine, MeasuresLines}
 use Rattle.track_measure.specs.Headline.{text_told, IsToldOf}
@@ -79,7 +79,7 @@ lines_then : (k : ℕ) (r : Replay) (xs ys : List LogLine) → lines_from k r (x
 lines_then k r [] ys = let same : k ≡ k + 0 = omega arith in ap (λ n. lines_from n r ys) same
 lines_then k r (x ∷ xs) ys =
     let same : k + 1 + length xs ≡ k + suc (length xs) = omega arith in
-    let here = one_told (told k (shape_of r.mesh) (replayed r x).mesh x) in
+    let here = one_told (measure_of_line k (shape_of r.mesh) (replayed r x).mesh x) in
     ap (λ l. here ++ l) (lines_then (k + 1) (replayed r x) xs ys ∙ ap (λ n. lines_from (k + 1) (replayed r x) xs ++ lines_from n (after (replayed r x) xs) ys) same)
     ∙ sym (append_assoc here (lines_from (k + 1) (replayed r x) xs) (lines_from (k + suc (length xs)) (after (replayed r x) xs) ys))
 
@@ -110,7 +110,7 @@ module _ (m : Mesh) where
   text_one_more front line s number at is =
       let there : s.replay ≡ after (at_mesh m) front = ap (λ (t : LogState). t.replay) at ∙ replay_with (without_lines m) front in
       let one = λ (n : ℕ) (r : Replay). text_of_all (lines_from n r (line ∷ [])) in
-      let nil : one number s.replay ≡ line_text number s line = ap text_of_all (append-nil (one_told (told number (shape_of s.replay.mesh) (replayed s.replay line).mesh line))) in
+      let nil : one number s.replay ≡ line_text number s line = ap text_of_all (append-nil (one_told (measure_of_line number (shape_of s.replay.mesh) (replayed s.replay line).mesh line))) in
       text_more front (line ∷ []) ∙ ap (λ t. front_text front ++ t) (ap (λ n. one n (after (at_mesh m) front)) (sym is) ∙ ap (one number) (sym there) ∙ nil)
 
 -- ---- how it ends

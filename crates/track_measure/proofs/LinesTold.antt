@@ -18,7 +18,7 @@ use Rattle.track_log.proofs.ToldTexts.{line_some}
 use Rattle.track_measure.specs.declared.measures.MeshShape.{MeshShape}
 use Rattle.track_measure.specs.declared.measures.MeasureLine.{MeasureLine}
 use Rattle.track_measure.specs.declared.measures.MeasureLine.TheVariants.{Measure, Change, End}
-use Rattle.track_measure.specs.MeasureLines.{shape_of, told}
+use Rattle.track_measure.specs.MeasureLines.{shape_of, measure_of_line}
 use Rattle.track_measure.specs.Texts.{genus_word, shape_words, text_of, text_of_told}
 use Rattle.track_measure.specs.Measured.{WritesNothingOrPart, TellsSome, line_text, MeasuresLine}
 
@@ -65,10 +65,10 @@ module _ (number : ℕ) (s : LogState) (l : LogLine) where
 
   -- it fits, and is told
   module _ (fits : Bool) (is : IsTrue fits ↔ FitsTested s l) (taken_is : fits ≡ true) (next : LogState) (taken : next ≡ with_line s l) (before : MeshShape) (before_is : before ≡ shape_of s.replay.mesh) (a b : Around) where
-    same_text : text_of_told (told number before next.replay.mesh l) ≡ line_text number s l
-    same_text = ap (λ (x : LogState). text_of_told (told number before x.replay.mesh l)) taken ∙ ap (λ h. text_of_told (told number h (with_line s l).replay.mesh l)) before_is
+    same_text : text_of_told (measure_of_line number before next.replay.mesh l) ≡ line_text number s l
+    same_text = ap (λ (x : LogState). text_of_told (measure_of_line number before x.replay.mesh l)) taken ∙ ap (λ h. text_of_told (measure_of_line number h (with_line s l).replay.mesh l)) before_is
 
-    pub line_told : {u : Unit {0}} → TellsSome (text_of_told (told number before next.replay.mesh l)) a b (Ok u) → MeasuresLine number s l a b (Ok true)
+    pub line_told : {u : Unit {0}} → TellsSome (text_of_told (measure_of_line number before next.replay.mesh l)) a b (Ok u) → MeasuresLine number s l a b (Ok true)
     line_told t = record {
       writes = (is.0 taken_is, t.whole ∙ ap (appended (written_of a)) same_text);
       nothing_stored = nothing_whole a b _ true t.nothing_stored;
@@ -78,7 +78,7 @@ module _ (number : ℕ) (s : LogState) (l : LogLine) where
     stopped_in stop (inl same) = inl same
     stopped_in stop (inr part) = inr (is.0 taken_is, part)
 
-    pub line_part : (stop : Stop) → TellsSome {T = Unit {0}} (text_of_told (told number before next.replay.mesh l)) a b (Err stop) → MeasuresLine number s l a b (Err stop)
+    pub line_part : (stop : Stop) → TellsSome {T = Unit {0}} (text_of_told (measure_of_line number before next.replay.mesh l)) a b (Err stop) → MeasuresLine number s l a b (Err stop)
     line_part stop t = record {
       writes = stopped_in stop (let P : List ℕ → Type 0 = λ x. WritesNothingOrPart x (written_of a) (written_of b) in subst P same_text t.part);
       nothing_stored = nothing_stopped a b stop t.nothing_stored;

@@ -11,8 +11,8 @@ use Rattle.outside_io.proofs.Outsides.{counts_then, counts_stopped}
 use Rattle.outside_io.proofs.Written.{appended-nil}
 use Rattle.track_input.specs.Words.{LogNames}
 use Rattle.track_log.specs.declared.LogRefusal.{LogRefusal}
-use Rattle.track_log.specs.declared.Prepared.{Prepared}
-use Rattle.track_log.specs.declared.Prepared.TheVariants as prepared
+use Rattle.track_log.specs.declared.PreparedLog.{PreparedLog}
+use Rattle.track_log.specs.declared.PreparedLog.TheVariants as prepared
 use Rattle.track_log.specs.LogJob.{LogJob, IsLogJob, LogInput, input_of}
 use Rattle.track_log.specs.Preparing.{PreparesLog}
 use Rattle.track_log.specs.Taking.{FitsTested}
@@ -46,15 +46,15 @@ measures_of names old new job is input e r told files causes =
 
 module _ (names : LogNames) (a b : Around) where
   -- it is stopped before a line is taken
-  pub measures_stopped : (stop : Stop) → OnlyLooks {T = Prepared} a b (Err stop) → Measures names (Err stop) a.world b.world
+  pub measures_stopped : (stop : Stop) → OnlyLooks {T = PreparedLog} a b (Err stop) → Measures names (Err stop) a.world b.world
   measures_stopped stop looks =
       let some = some_log_job a.world.holds.files names in
       measures_of names a.world b.world some.0 some.1 (input_of some.0) refl (Err stop)
       (λ ending h. (0, told_some (input_of some.0) ending h, ap (λ (w : Contents). w.written) looks.kept ∙ sym (appended-nil (written_of a))))
       (ap (λ (w : Contents). w.files) looks.kept) (counts_stopped a b stop looks.counts).causes
 
-  module _ (c : Around) (p : Result Prepared Stop) (looks : OnlyLooks a b p) (x : Prepared) (prepares : PreparesLog a.world.holds.files names x) (r : Result (Option LogRefusal) Stop) where
-    input_is : (found : Prepared) → x ≡ found → PreparesLog a.world.holds.files names found
+  module _ (c : Around) (p : Result PreparedLog Stop) (looks : OnlyLooks a b p) (x : PreparedLog) (prepares : PreparesLog a.world.holds.files names x) (r : Result (Option LogRefusal) Stop) where
+    input_is : (found : PreparedLog) → x ≡ found → PreparesLog a.world.holds.files names found
     input_is found e = subst (PreparesLog a.world.holds.files names) e prepares
 
     unwritten : written_of b ≡ written_of a

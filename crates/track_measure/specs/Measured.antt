@@ -11,7 +11,7 @@ use Rattle.log_run.specs.States.{LogState, with_line}
 use Rattle.track_log.specs.declared.refusal.LogRefusal.{LogRefusal}
 use Rattle.track_log.specs.LogJob.{LogInput}
 use Rattle.track_log.specs.Taking.{FitsTested}
-use Rattle.track_measure.specs.MeasureLines.{shape_of, told}
+use Rattle.track_measure.specs.MeasureLines.{shape_of, measure_of_line}
 use Rattle.track_measure.specs.Texts.{text_of_told}
 use Rattle.track_measure.specs.Headline.{IsToldOf, text_told}
 
@@ -36,7 +36,7 @@ pub record TellsSome {T : Type 0} (text : List ℕ) (old new : Around)
 -- what a line tells that is taken where a replay stands
 abbrev pub line_text : ℕ → LogState → LogLine → List ℕ
 line_text number s line =
-    text_of_told (told number (shape_of s.replay.mesh) (with_line s line).replay.mesh line)
+    text_of_told (measure_of_line number (shape_of s.replay.mesh) (with_line s line).replay.mesh line)
 
 -- a line fits, and what it tells is written; or it does not, and nothing is; or it stops, and
 -- nothing is written, or the line fits and a part of what it tells is

@@ -6,17 +6,17 @@ ghost use Rattle.mesh_base.specs.Valid.{IsValidSurface};
 ghost use Rattle.mesh_journal.specs.Journal.{mesh_in};
 ghost use Rattle.log_run.specs.Laws.{IsValidState};
 ghost use Rattle.log_run.specs.States.{LogState, with_line, without_lines};
-ghost use Rattle.outside_io.specs.Outside.{Counts};
+ghost use Rattle.outside_io.specs.Outside.{Counts, InWorld};
 ghost use Rattle.track_input.specs.Named.{log_names};
 ghost use Rattle.track_log.specs.Taking.{FitsTested};
 ghost use Rattle.track_log.specs.Telling.{Tells};
-ghost use Rattle.track_measure.specs.MeasureLines.{shape_of, told};
+ghost use Rattle.track_measure.specs.MeasureLines.{shape_of, measure_of_line};
 ghost use Rattle.track_measure.specs.Texts.{text_of, text_of_told};
 ghost use Rattle.track_measure.specs.Measured.{TellsSome, MeasuresLine, MeasuresLines};
 ghost use Rattle.track_measure.specs.Headline.{Measures};
 
 use crate::kept_shape::line_keeps_shape;
-use crate::measures::{MeasureLine, MeshShape, shape_of, told};
+use crate::measures::{MeasureLine, MeshShape, measure_of_line, shape_of};
 use crate::printer::print_measure;
 use grid_base::NoMemory;
 use log_run::LogRun;
@@ -26,7 +26,7 @@ use mesh_journal::JournalMesh;
 use outside_io::{Fact, Outside, Stop};
 use std::alloc::Global;
 use track_input::LogFiles;
-use track_log::{LogRefusal, Prepared, prepare_log, put_text, refuse, take_tested};
+use track_log::{LogRefusal, PreparedLog, prepare_log, put_text, refuse, take_tested};
 
 // Writes one line.
 fn tell<O: Outside>(alloc: Global, line: MeasureLine, outside: &mut O) -> Result<(), Stop>
@@ -48,10 +48,10 @@ fn tell_line<O: Outside>(
     outside: &mut O,
 ) -> Result<(), Stop>
     requires { shape ≡ shape_of run.now.replay.mesh }
-    ensures { TellsSome (text_of_told (told number before run.now.replay.mesh line.now))
+    ensures { TellsSome (text_of_told (measure_of_line number before run.now.replay.mesh line.now))
         (O.around outside.old) (O.around outside.new) result }
 {
-    match told(alloc, run.mesh(), number, line, before, shape)? {
+    match measure_of_line(alloc, run.mesh(), number, line, before, shape)? {
         Some(found) => tell(alloc, found, outside),
         None => Ok(()),
     }
@@ -161,11 +161,11 @@ pub fn measure<O: Outside>(
     outside: &mut O,
 ) -> Result<Option<LogRefusal>, Stop>
     requires few { files.decimals ≤ DECIMALS_MAX }
-    ensures headline { Measures (log_names files.entry) result (O.around outside.old).world (O.around outside.new).world }
+    ensures headline { InWorld O.around outside (Measures (log_names files.entry) result) }
     ensures same { (O.around outside.new).sides ≡ (O.around outside.old).sides }
 {
     match prepare_log(alloc, files, outside)? {
-        Prepared::No(why) => refuse(alloc, &why, outside),
-        Prepared::Yes(mesh, lines) => measure_lines(alloc, mesh, lines.as_slice(), outside),
+        PreparedLog::No(why) => refuse(alloc, &why, outside),
+        PreparedLog::Yes(mesh, lines) => measure_lines(alloc, mesh, lines.as_slice(), outside),
     }
 }

@@ -1,6 +1,6 @@
 //! What one line of a log tells of volume and shape.
 ghost use Rattle.std.specs.Prelude.{◌≡◌, IfOk};
-ghost use Rattle.track_measure.specs.MeasureLines.{shape_of, change_to, told};
+ghost use Rattle.track_measure.specs.MeasureLines.{shape_of, change_to, measure_of_line};
 
 use grid_base::NoMemory;
 use log_text::LogLine;
@@ -57,7 +57,7 @@ fn change_to(line: u32, before: MeshShape, shape: MeshShape) -> Option<MeasureLi
 }
 
 /// What the line of a log with this number tells, where the mesh had one shape before it and is this one behind it, of this shape.
-pub fn told<S: Surface>(
+pub fn measure_of_line<S: Surface>(
     alloc: Global,
     mesh: &S,
     number: u32,
@@ -66,7 +66,7 @@ pub fn told<S: Surface>(
     shape: MeshShape,
 ) -> Result<Option<MeasureLine>, NoMemory>
     requires { shape ≡ shape_of (S.mesh mesh.now) }
-    ensures { IfOk result (λ found. found ≡ told number before (S.mesh mesh.now) line.now) }
+    ensures { IfOk result (λ found. found ≡ measure_of_line number before (S.mesh mesh.now) line.now) }
 {
     if let LogLine::Mesh { k, .. } = line {
         let genus = genus_by(alloc, mesh, shape.components, shape.euler)?;

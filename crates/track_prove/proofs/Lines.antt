@@ -27,8 +27,8 @@ use Rattle.log_run.specs.States.{LogState, with_line}
 use Rattle.log_run.specs.Fits.{LineFits, MayBeTried}
 use Rattle.log_run.specs.Laws.{IsValidState, StepIsClear, FittingLinesAreSafe}
 use Rattle.log_run.specs.Motions.{moved_in, IsCertified, IsJudged, IsClearWhereMoved, PassesWhereMoved}
-use Rattle.track_prove.specs.declared.taken_lines.Taken.{Taken}
-use Rattle.track_prove.specs.declared.taken_lines.Taken.TheVariants.{Fits, Unfit, Bad}
+use Rattle.track_prove.specs.declared.taken_lines.LineOutcome.{LineOutcome}
+use Rattle.track_prove.specs.declared.taken_lines.LineOutcome.TheVariants.{Fits, Unfit, Bad}
 use Rattle.track_prove.specs.Proving.{MakesVerdict, IsProofOf}
 use Rattle.track_prove.specs.Verifying.{FoundOf, IsVerdictOn}
 use Rattle.track_prove.specs.Taking.{IsTaken, IsFitOrNot, IsDenied, IsClearIfFits, IsMadeHere, IsJudgedHere, Goes, AddsProof}
@@ -108,13 +108,13 @@ no_motion_is_against v is e = absurd cc
 
 -- ---- what a call answers that takes a line
 
-pub fit_taken : (Found : Verdict → Type 0) (s t : LogState) (l : LogLine) → t ≡ s → (LineFits s l → Found Accepted) → (r : Result Taken NoMemory) → IfOk r (IsFitOrNot t l) → IfOk r (IsTaken Found s l)
+pub fit_taken : (Found : Verdict → Type 0) (s t : LogState) (l : LogLine) → t ≡ s → (LineFits s l → Found Accepted) → (r : Result LineOutcome NoMemory) → IfOk r (IsFitOrNot t l) → IfOk r (IsTaken Found s l)
 fit_taken Found s t l same accepts (Err fault) told = tt
 fit_taken Found s t l same accepts (Ok Fits) told = let fits = subst (λ x. LineFits x l) same told in (fits, accepts fits)
 fit_taken Found s t l same accepts (Ok Unfit) told = λ fits. told (subst (λ x. LineFits x l) (sym same) fits)
 fit_taken Found s t l same accepts (Ok (Bad v)) told = absurd told
 
-pub denied_taken : (Found : Verdict → Type 0) (s t : LogState) (l : LogLine) → t ≡ s → ((v : Verdict) → LineFits s l → v ≡ NoMotion → Found v) → (r : Result Taken NoMemory) → IfOk r (IsDenied t l) → IfOk r (IsTaken Found s l)
+pub denied_taken : (Found : Verdict → Type 0) (s t : LogState) (l : LogLine) → t ≡ s → ((v : Verdict) → LineFits s l → v ≡ NoMotion → Found v) → (r : Result LineOutcome NoMemory) → IfOk r (IsDenied t l) → IfOk r (IsTaken Found s l)
 denied_taken Found s t l same denies (Err fault) told = tt
 denied_taken Found s t l same denies (Ok Fits) told = absurd told
 denied_taken Found s t l same denies (Ok Unfit) told = λ fits. told (subst (λ x. LineFits x l) (sym same) fits)
@@ -123,11 +123,11 @@ denied_taken Found s t l same denies (Ok (Bad v)) told =
     (fits, (denies v fits told.1, no_motion_is_against v told.1))
 
 -- no line is taken then
-pub denied_stays : (s : LogState) (l : LogLine) (next : LogState) (t : LogState) (r : Result Taken NoMemory) → IfOk r (IsDenied t l) → r ≡ Ok Fits → Goes s l next
-denied_stays s l next t r told e = absurd (let P : Result Taken NoMemory → Type 0 = λ x. IfOk x (IsDenied t l) in subst P e told)
+pub denied_stays : (s : LogState) (l : LogLine) (next : LogState) (t : LogState) (r : Result LineOutcome NoMemory) → IfOk r (IsDenied t l) → r ≡ Ok Fits → Goes s l next
+denied_stays s l next t r told e = absurd (let P : Result LineOutcome NoMemory → Type 0 = λ x. IfOk x (IsDenied t l) in subst P e told)
 
-pub fits_of : (s : LogState) (l : LogLine) (r : Result Taken NoMemory) → IfOk r (IsFitOrNot s l) → r ≡ Ok Fits → LineFits s l
-fits_of s l r told e = let P : Result Taken NoMemory → Type 0 = λ x. IfOk x (IsFitOrNot s l) in subst P e told
+pub fits_of : (s : LogState) (l : LogLine) (r : Result LineOutcome NoMemory) → IfOk r (IsFitOrNot s l) → r ≡ Ok Fits → LineFits s l
+fits_of s l r told e = let P : Result LineOutcome NoMemory → Type 0 = λ x. IfOk x (IsFitOrNot s l) in subst P e told
 
 pub goes_same : (s t : LogState) (l : LogLine) (next : LogState) → t ≡ s → Goes t l next → Goes s l next
 goes_same s t l next same goes = subst (λ x. Goes x l next) same goes
@@ -145,10 +145,10 @@ module _ (s t : LogState) (l : LogLine) (same : t ≡ s) (o : Option Made) (is :
   pub bare_clear : IsClearIfFits t l
   bare_clear = clear_there s t l same (λ fits. none_clear (moved_in s.replay l) (no_motion fits))
 
-  pub bare_told : (r : Result Taken NoMemory) → IfOk r (IsFitOrNot t l) → IfOk r (IsTaken (MakesVerdict (moved_in s.replay l)) s l)
+  pub bare_told : (r : Result LineOutcome NoMemory) → IfOk r (IsFitOrNot t l) → IfOk r (IsTaken (MakesVerdict (moved_in s.replay l)) s l)
   bare_told r told = fit_taken (MakesVerdict (moved_in s.replay l)) s t l same (λ fits. none_passes (moved_in s.replay l) (no_motion fits)) r told
 
-  pub bare_adds : (number : ℕ) (proofs : List ProofAt) (r : Result Taken NoMemory) → IfOk r (IsFitOrNot t l) → r ≡ Ok Fits → AddsProof number (moved_in s.replay l) proofs proofs
+  pub bare_adds : (number : ℕ) (proofs : List ProofAt) (r : Result LineOutcome NoMemory) → IfOk r (IsFitOrNot t l) → r ≡ Ok Fits → AddsProof number (moved_in s.replay l) proofs proofs
   bare_adds number proofs r told e = none_adds number (moved_in s.replay l) proofs proofs (no_motion (subst (λ x. LineFits x l) same (fits_of t l r told e))) refl
 
 -- this, where the replay is the same
@@ -171,7 +171,7 @@ module _ (s : LogState) (l : LogLine) (p : Certificate) (made : IsMadeHere s l (
   passes_by None h = absurd h
   passes_by (Some motion) h = h.0.1.all_pass
 
-  pub proof_told : (r : Result Taken NoMemory) → IfOk r (IsFitOrNot s l) → IfOk r (IsTaken (MakesVerdict (moved_in s.replay l)) s l)
+  pub proof_told : (r : Result LineOutcome NoMemory) → IfOk r (IsFitOrNot s l) → IfOk r (IsTaken (MakesVerdict (moved_in s.replay l)) s l)
   proof_told r told = fit_taken (MakesVerdict (moved_in s.replay l)) s s l refl (λ fits. passes_by (moved_in s.replay l) made.certified.1) r told
 
   adds_by : (number : ℕ) (motion : Option Scaffold) (old new : List ProofAt) → IsMadeOf motion (Proof p) → new ≡ old ++ record { line = number; proof = p } ∷ [] → AddsProof number motion old new
@@ -195,7 +195,7 @@ fails_told s l made pair is h =
     (there.certified.0, (fails_by (moved_in s.replay l) pair there.certified.1, missing_is_against pair))
 
 -- what is told where the replay is the same
-pub told_same : (s t : LogState) (l : LogLine) (r : Result Taken NoMemory) → t ≡ s → IfOk r (IsTaken (MakesVerdict (moved_in t.replay l)) t l) → IfOk r (IsTaken (MakesVerdict (moved_in s.replay l)) s l)
+pub told_same : (s t : LogState) (l : LogLine) (r : Result LineOutcome NoMemory) → t ≡ s → IfOk r (IsTaken (MakesVerdict (moved_in t.replay l)) t l) → IfOk r (IsTaken (MakesVerdict (moved_in s.replay l)) s l)
 told_same s t l r same told = subst (λ (x : LogState). IfOk r (IsTaken (MakesVerdict (moved_in x.replay l)) x l)) same told
 
 pub adds_same : (s t : LogState) (l : LogLine) (number : ℕ) (old new : List ProofAt) → t ≡ s → AddsProof number (moved_in t.replay l) old new → AddsProof number (moved_in s.replay l) old new
@@ -219,12 +219,12 @@ judged_here s t l at o v same is judged =
 
 -- the line is no motion
 pub unjudged_told : (s t : LogState) (l : LogLine) (at : ProofAt) (o : Option Verdict) → t ≡ s → o ≡ None → IsJudged s l at.proof.claim at.proof.entries o
-    → (r : Result Taken NoMemory) → IfOk r (IsDenied t l) → IfOk r (IsTaken (FoundOf (moved_in s.replay l) (Some (proof_view at))) s l)
+    → (r : Result LineOutcome NoMemory) → IfOk r (IsDenied t l) → IfOk r (IsTaken (FoundOf (moved_in s.replay l) (Some (proof_view at))) s l)
 unjudged_told s t l at o same is judged r told =
     let none : LineFits s l → IsNone (moved_in s.replay l) = subst (IsJudged s l at.proof.claim at.proof.entries) is judged in
     denied_taken (FoundOf (moved_in s.replay l) (Some (proof_view at))) s t l same (λ v fits e. none_denied (moved_in s.replay l) (proof_view at) v (none fits) e) r told
 
-pub found_same : (s t : LogState) (l : LogLine) (p : Option PlainProof) (r : Result Taken NoMemory) → t ≡ s → IfOk r (IsTaken (FoundOf (moved_in t.replay l) p) t l) → IfOk r (IsTaken (FoundOf (moved_in s.replay l) p) s l)
+pub found_same : (s t : LogState) (l : LogLine) (p : Option PlainProof) (r : Result LineOutcome NoMemory) → t ≡ s → IfOk r (IsTaken (FoundOf (moved_in t.replay l) p) t l) → IfOk r (IsTaken (FoundOf (moved_in s.replay l) p) s l)
 found_same s t l p r same told = subst (λ (x : LogState). IfOk r (IsTaken (FoundOf (moved_in x.replay l) p) x l)) same told
 
 module _ (s : LogState) (l : LogLine) (at : ProofAt) (v : Verdict) (judged : IsJudgedHere s l at v) where
@@ -240,39 +240,39 @@ module _ (s : LogState) (l : LogLine) (at : ProofAt) (v : Verdict) (judged : IsJ
     pub accepted_clear : AcceptedAreClear → IsClearIfFits s l
     accepted_clear accepted = record { clear = λ fits. clears_by accepted (moved_in s.replay l) accepted_is.1 }
 
-    pub accepted_told : (r : Result Taken NoMemory) → IfOk r (IsFitOrNot s l) → IfOk r (IsTaken (FoundOf (moved_in s.replay l) (Some (proof_view at))) s l)
+    pub accepted_told : (r : Result LineOutcome NoMemory) → IfOk r (IsFitOrNot s l) → IfOk r (IsTaken (FoundOf (moved_in s.replay l) (Some (proof_view at))) s l)
     accepted_told r told = fit_taken (FoundOf (moved_in s.replay l) (Some (proof_view at))) s s l refl (λ fits. found_by (moved_in s.replay l) at Accepted accepted_is.1) r told
 
   -- something is against it
   pub against_told : (v ≡ Accepted → ⊥) → IsTaken (FoundOf (moved_in s.replay l) (Some (proof_view at))) s l (Bad v)
   against_told against = (judged.judged.0, (found_by (moved_in s.replay l) at v judged.judged.1, against))
 
-pub bad_is_not_fit : (v : Verdict) → ◌≡◌ {A = Result Taken NoMemory} (Ok (Bad v)) (Ok Fits) → ⊥
+pub bad_is_not_fit : (v : Verdict) → ◌≡◌ {A = Result LineOutcome NoMemory} (Ok (Bad v)) (Ok Fits) → ⊥
 bad_is_not_fit v e = absurd cc
 
 -- ---- without a certificate
 
 module _ (s : LogState) (l : LogLine) (tells : Bool) (is : tells ≡ is_some (moved_in s.replay l)) where
-  pub lacking_told : tells ≡ true → (r : Result Taken NoMemory) → IfOk r (IsDenied s l) → IfOk r (IsTaken (FoundOf (moved_in s.replay l) None) s l)
+  pub lacking_told : tells ≡ true → (r : Result LineOutcome NoMemory) → IfOk r (IsDenied s l) → IfOk r (IsTaken (FoundOf (moved_in s.replay l) None) s l)
   lacking_told e r told = denied_taken (FoundOf (moved_in s.replay l) None) s s l refl (λ v fits d. some_denied (moved_in s.replay l) v (sym is ∙ e) d) r told
 
   pub still_clear : tells ≡ false → IsClearIfFits s l
   still_clear e = record { clear = λ fits. none_clear (moved_in s.replay l) (sym is ∙ e) }
 
-  pub still_told : tells ≡ false → (r : Result Taken NoMemory) → IfOk r (IsFitOrNot s l) → IfOk r (IsTaken (FoundOf (moved_in s.replay l) None) s l)
+  pub still_told : tells ≡ false → (r : Result LineOutcome NoMemory) → IfOk r (IsFitOrNot s l) → IfOk r (IsTaken (FoundOf (moved_in s.replay l) None) s l)
   still_told e r told = fit_taken (FoundOf (moved_in s.replay l) None) s s l refl (λ fits. none_found (moved_in s.replay l) (sym is ∙ e)) r told
 
 -- by the certificate in front
-pub told_by : (s : LogState) (l : LogLine) (o p : Option PlainProof) (r : Result Taken NoMemory) → o ≡ p → IfOk r (IsTaken (FoundOf (moved_in s.replay l) o) s l) → IfOk r (IsTaken (FoundOf (moved_in s.replay l) p) s l)
+pub told_by : (s : LogState) (l : LogLine) (o p : Option PlainProof) (r : Result LineOutcome NoMemory) → o ≡ p → IfOk r (IsTaken (FoundOf (moved_in s.replay l) o) s l) → IfOk r (IsTaken (FoundOf (moved_in s.replay l) p) s l)
 told_by s l o p r e told = let P : Option PlainProof → Type 0 = λ x. IfOk r (IsTaken (FoundOf (moved_in s.replay l) x) s l) in subst P e told
 
 -- ---- what becomes of a line, by the answer
 
-pub taken_fits : (Found : Verdict → Type 0) (s : LogState) (l : LogLine) (x : Taken) → x ≡ Fits → IsTaken Found s l x → LineFits s l × Found Accepted
+pub taken_fits : (Found : Verdict → Type 0) (s : LogState) (l : LogLine) (x : LineOutcome) → x ≡ Fits → IsTaken Found s l x → LineFits s l × Found Accepted
 taken_fits Found s l x is told = subst (IsTaken Found s l) is told
 
-pub taken_unfit : (Found : Verdict → Type 0) (s : LogState) (l : LogLine) (x : Taken) → x ≡ Unfit → IsTaken Found s l x → LineFits s l → ⊥
+pub taken_unfit : (Found : Verdict → Type 0) (s : LogState) (l : LogLine) (x : LineOutcome) → x ≡ Unfit → IsTaken Found s l x → LineFits s l → ⊥
 taken_unfit Found s l x is told = subst (IsTaken Found s l) is told
 
-pub taken_bad : (Found : Verdict → Type 0) (s : LogState) (l : LogLine) (x : Taken) (v : Verdict) → x ≡ Bad v → IsTaken Found s l x → LineFits s l × (Found v × (v ≡ Accepted → ⊥))
+pub taken_bad : (Found : Verdict → Type 0) (s : LogState) (l : LogLine) (x : LineOutcome) (v : Verdict) → x ≡ Bad v → IsTaken Found s l x → LineFits s l × (Found v × (v ≡ Accepted → ⊥))
 taken_bad Found s l x v is told = subst (IsTaken Found s l) is told

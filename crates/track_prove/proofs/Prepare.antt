@@ -26,8 +26,8 @@ use Rattle.track_input.proofs.Sources.{some_source}
 use Rattle.track_input.proofs.ReadLemmas.{same_mesh}
 use Rattle.track_log.specs.declared.FetchedLog.{FetchedLog}
 use Rattle.track_log.specs.declared.FetchedLog.TheVariants as fetched
-use Rattle.track_log.specs.declared.Prepared.{Prepared}
-use Rattle.track_log.specs.declared.Prepared.TheVariants as prepared
+use Rattle.track_log.specs.declared.PreparedLog.{PreparedLog}
+use Rattle.track_log.specs.declared.PreparedLog.TheVariants as prepared
 use Rattle.track_log.specs.declared.Texts.{Texts}
 use Rattle.track_log.specs.declared.Texts.TheVariants as texts
 use Rattle.track_log.specs.declared.refusal.LogRefusal.{LogRefusal}
@@ -36,14 +36,14 @@ use Rattle.track_log.specs.Fetching.{FetchesLog, fetched_by}
 use Rattle.track_log.specs.LogJob.{LogJob, BothTexts, TextsRead, LogInput, fetched_of, input_of_read, input_of_test, read_of_lists}
 use Rattle.track_log.specs.Preparing.{ReadsTexts, Tests, IsPrepared, read_by}
 use Rattle.track_log.specs.Preparing.{input_by as log_input_by}
-use Rattle.track_prove.specs.declared.inputs.Given.{Given}
-use Rattle.track_prove.specs.declared.inputs.Given.TheVariants as given
+use Rattle.track_prove.specs.declared.inputs.Inputs.{Inputs}
+use Rattle.track_prove.specs.declared.inputs.Inputs.TheVariants as given
 use Rattle.track_prove.specs.Verifying.{ProofJob, IsProofJob, ProofBytes, ProofTexts, ProofInput, fetched_with_proof, read_with_proof, read_of_bytes, with_proofs, proof_input_of_read, proof_input_of}
 use Rattle.track_prove.specs.Doing.{texts_of, input_by, IsReady, GivesInput, PreparesProof}
 
 -- ---- the mesh is tested
 
-module _ (scale : Scale) (lists : MeshLists) (lines : List LogLine) (ps : List PlainProof) (x : Prepared) (tests : Tests scale lists lines x) where
+module _ (scale : Scale) (lists : MeshLists) (lines : List LogLine) (ps : List PlainProof) (x : PreparedLog) (tests : Tests scale lists lines x) where
   tested_input : proof_input_of_read scale (read_with_proof (Ok (texts_of lists lines)) (Ok ps)) ≡ with_proofs (log_input_by x) ps
   tested_input = ap (λ r. with_proofs r ps) (ap (λ m. input_of_test m (met_first m) lines) (same_mesh scale lists) ∙ tests.input)
 
@@ -63,7 +63,7 @@ module _ (scale : Scale) (lists : MeshLists) (lines : List LogLine) (ps : List P
 pub gives_fault : (scale : Scale) (lists : MeshLists) (lines : List LogLine) (proof : List ℕ) (fault : TextFault) → proofs_of proof ≡ Err fault → GivesInput scale (read_with_proof (Ok (texts_of lists lines)) (proofs_of proof)) (given.No (Proof fault))
 gives_fault scale lists lines proof fault e = record { input = ap (λ r. proof_input_of_read scale (read_with_proof (Ok (texts_of lists lines)) r)) e; ready = tt }
 
-pub gives_read : (scale : Scale) (lists : MeshLists) (lines : List LogLine) (proof : List ℕ) (ps : List PlainProof) (r : Result Given NoMemory) → proofs_of proof ≡ Ok ps → IfOk r (GivesInput scale (read_with_proof (Ok (texts_of lists lines)) (Ok ps))) → IfOk r (GivesInput scale (read_with_proof (Ok (texts_of lists lines)) (proofs_of proof)))
+pub gives_read : (scale : Scale) (lists : MeshLists) (lines : List LogLine) (proof : List ℕ) (ps : List PlainProof) (r : Result Inputs NoMemory) → proofs_of proof ≡ Ok ps → IfOk r (GivesInput scale (read_with_proof (Ok (texts_of lists lines)) (Ok ps))) → IfOk r (GivesInput scale (read_with_proof (Ok (texts_of lists lines)) (proofs_of proof)))
 gives_read scale lists lines proof ps r e h =
     let P : Result (List PlainProof) TextFault → Type 0 = λ x. IfOk r (GivesInput scale (read_with_proof (Ok (texts_of lists lines)) x)) in
     subst P (sym e) h
@@ -77,7 +77,7 @@ module _ (scale : Scale) (decimals : ℕ) (mesh log proof : List ℕ) (x : Texts
     ready = tt;
   }
 
-  pub gives_texts : (lists : MeshLists) (lines : List LogLine) → x ≡ texts.Yes lists lines → (r : Result Given NoMemory) → IfOk r (GivesInput scale (read_with_proof (Ok (texts_of lists lines)) (proofs_of proof))) → IfOk r (GivesInput scale (read_with_proof (read_of_lists scale (lists_of decimals mesh) log) (proofs_of proof)))
+  pub gives_texts : (lists : MeshLists) (lines : List LogLine) → x ≡ texts.Yes lists lines → (r : Result Inputs NoMemory) → IfOk r (GivesInput scale (read_with_proof (Ok (texts_of lists lines)) (proofs_of proof))) → IfOk r (GivesInput scale (read_with_proof (read_of_lists scale (lists_of decimals mesh) log) (proofs_of proof)))
   gives_texts lists lines is r h =
       let P : Result TextsRead LogRefusal → Type 0 = λ t. IfOk r (GivesInput scale (read_with_proof t (proofs_of proof))) in
       subst P (sym (reads.texts ∙ ap read_by is)) h
@@ -120,7 +120,7 @@ module _ (files : Option Files) (names : ProofNames) (x : FetchedLog) (fetches :
       ready = tt;
     }
 
-    pub prepares_proof : (proof : List ℕ) → source_of f ≡ Bytes proof → (g : Given) → GivesInput names.names.scale (read_with_proof (read_of_lists names.names.scale (lists_of names.names.decimals mesh) log) (proofs_of proof)) g → PreparesProof files names g
+    pub prepares_proof : (proof : List ℕ) → source_of f ≡ Bytes proof → (g : Inputs) → GivesInput names.names.scale (read_with_proof (read_of_lists names.names.scale (lists_of names.names.decimals mesh) log) (proofs_of proof)) g → PreparesProof files names g
     prepares_proof proof e g gives = record {
       job = record { log = fetches.job; proof_file = Bytes proof };
       is_job = record { log = fetches.is_job; proof = source_at names.names.scale files names.proof f (Bytes proof) e found };
@@ -133,7 +133,7 @@ module _ (files : Option Files) (names : ProofNames) (x : FetchedLog) (fetches :
     }
 
     -- with the slices that were read
-    pub prepares_read : (proof : List ℕ) → source_of f ≡ Bytes proof → (a b c : List ℕ) → a ≡ mesh → b ≡ log → c ≡ proof → (g : Given) → GivesInput names.names.scale (read_with_proof (read_of_lists names.names.scale (lists_of names.names.decimals a) b) (proofs_of c)) g → PreparesProof files names g
+    pub prepares_read : (proof : List ℕ) → source_of f ≡ Bytes proof → (a b c : List ℕ) → a ≡ mesh → b ≡ log → c ≡ proof → (g : Inputs) → GivesInput names.names.scale (read_with_proof (read_of_lists names.names.scale (lists_of names.names.decimals a) b) (proofs_of c)) g → PreparesProof files names g
     prepares_read proof e a b c mesh_is log_is proof_is g gives =
         let P : List ℕ → Type 0 = λ x. GivesInput names.names.scale (read_with_proof (read_of_lists names.names.scale (lists_of names.names.decimals x) b) (proofs_of c)) g in
         let Q : List ℕ → Type 0 = λ y. GivesInput names.names.scale (read_with_proof (read_of_lists names.names.scale (lists_of names.names.decimals mesh) y) (proofs_of c)) g in

@@ -18,8 +18,8 @@ use Rattle.track_log.specs.declared.refusal.LogRefusal.{LogRefusal}
 use Rattle.track_log.specs.declared.refusal.LogRefusal.TheVariants as log
 use Rattle.track_log.specs.LogJob.{LogInput}
 use Rattle.track_log.proofs.ToldTexts.{refused_some}
-use Rattle.track_prove.specs.declared.taken_lines.Taken.{Taken}
-use Rattle.track_prove.specs.declared.taken_lines.Taken.TheVariants.{Fits, Unfit, Bad}
+use Rattle.track_prove.specs.declared.taken_lines.LineOutcome.{LineOutcome}
+use Rattle.track_prove.specs.declared.taken_lines.LineOutcome.TheVariants.{Fits, Unfit, Bad}
 use Rattle.track_prove.specs.declared.report.Report.{Report}
 use Rattle.track_prove.specs.declared.report.Report.TheVariants.{Refused, Text}
 use Rattle.track_prove.specs.Judged.{EndsJudged}
@@ -59,7 +59,7 @@ module _ (m : Mesh) (lines : List LogLine) where
   refused : (why : LogRefusal) → EndsJudged ProveFinds None m lines (Some why) → ProvesLines m lines (Refused why)
   refused why ends = record { ends = (ends, refl); some = refused_some why; safe = λ e. absurd cc }
 
-  module _ (i : ℕ) (line : LogLine) (lt : i < length lines) (at : line ≡ get_or lines i line) (run : LogState) (number : ℕ) (proofs : List ProofAt) (h : Proving (drop i lines) run number proofs) (x : Taken) (told : IsTaken (MakesVerdict (moved_in run.replay line)) run line x) where
+  module _ (i : ℕ) (line : LogLine) (lt : i < length lines) (at : line ≡ get_or lines i line) (run : LogState) (number : ℕ) (proofs : List ProofAt) (h : Proving (drop i lines) run number proofs) (x : LineOutcome) (told : IsTaken (MakesVerdict (moved_in run.replay line)) run line x) where
     here : Proving (line ∷ drop (i + 1) lines) run number proofs
     here = subst (λ l. Proving l run number proofs) (drop_more lines i line lt ∙ ap (λ (x : LogLine). x ∷ drop (i + 1) lines) (sym at)) h
 

@@ -18,8 +18,8 @@ use Rattle.log_run.specs.States.{LogState, without_lines}
 use Rattle.track_log.specs.declared.refusal.LogRefusal.{LogRefusal}
 use Rattle.track_log.specs.declared.refusal.LogRefusal.TheVariants as log
 use Rattle.track_log.proofs.ToldTexts.{line_some, refused_some}
-use Rattle.track_prove.specs.declared.taken_lines.Taken.{Taken}
-use Rattle.track_prove.specs.declared.taken_lines.Taken.TheVariants.{Fits, Unfit, Bad}
+use Rattle.track_prove.specs.declared.taken_lines.LineOutcome.{LineOutcome}
+use Rattle.track_prove.specs.declared.taken_lines.LineOutcome.TheVariants.{Fits, Unfit, Bad}
 use Rattle.track_prove.specs.declared.report.Report.{Report}
 use Rattle.track_prove.specs.declared.report.Report.TheVariants.{Refused, Text}
 use Rattle.track_prove.specs.Judged.{EndsJudged}
@@ -63,7 +63,7 @@ module _ (m : Mesh) (lines : List LogLine) (all : List PlainProof) where
   refused : (why : LogRefusal) → EndsJudged (VerifyFinds all) (beyond (length lines) all) m lines (Some why) → VerifiesLines m lines all (Refused why)
   refused why ends = record { ends = (ends, refl); some = refused_some why; safe = λ e. absurd cc }
 
-  module _ (i : ℕ) (line : LogLine) (lt : i < length lines) (at : line ≡ get_or lines i line) (run : LogState) (number : ℕ) (rest : List PlainProof) (h : Verifying (drop i lines) run number rest) (x : Taken) (told : IsTaken (FoundOf (moved_in run.replay line) (front_at rest (number + 1))) run line x) where
+  module _ (i : ℕ) (line : LogLine) (lt : i < length lines) (at : line ≡ get_or lines i line) (run : LogState) (number : ℕ) (rest : List PlainProof) (h : Verifying (drop i lines) run number rest) (x : LineOutcome) (told : IsTaken (FoundOf (moved_in run.replay line) (front_at rest (number + 1))) run line x) where
     here : Verifying (line ∷ drop (i + 1) lines) run number rest
     here = subst (λ l. Verifying l run number rest) (drop_more lines i line lt ∙ ap (λ (x : LogLine). x ∷ drop (i + 1) lines) (sym at)) h
 

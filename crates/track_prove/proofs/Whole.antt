@@ -13,8 +13,8 @@ use Rattle.outside_io.proofs.Outsides.{counts_then, counts_stopped}
 use Rattle.track_input.specs.Words.{LogNames, ProofNames}
 use Rattle.track_input.proofs.Sources.{some_source}
 use Rattle.track_log.specs.declared.refusal.LogRefusal.{LogRefusal}
-use Rattle.track_log.specs.declared.Prepared.{Prepared}
-use Rattle.track_log.specs.declared.Prepared.TheVariants as prepared
+use Rattle.track_log.specs.declared.PreparedLog.{PreparedLog}
+use Rattle.track_log.specs.declared.PreparedLog.TheVariants as prepared
 use Rattle.track_log.specs.LogJob.{LogJob, IsLogJob, LogInput, input_of}
 use Rattle.track_log.specs.Preparing.{PreparesLog}
 use Rattle.track_log.specs.Preparing.{input_by as log_input_by}
@@ -22,8 +22,8 @@ use Rattle.track_log.specs.Refused.{refused_text}
 use Rattle.track_log.specs.Telling.{Tells}
 use Rattle.track_log.proofs.PrepareLemmas.{some_log_job}
 use Rattle.track_log.proofs.ToldTexts.{refused_some}
-use Rattle.track_prove.specs.declared.inputs.Given.{Given}
-use Rattle.track_prove.specs.declared.inputs.Given.TheVariants as given
+use Rattle.track_prove.specs.declared.inputs.Inputs.{Inputs}
+use Rattle.track_prove.specs.declared.inputs.Inputs.TheVariants as given
 use Rattle.track_prove.specs.declared.report.Report.{Report}
 use Rattle.track_prove.specs.declared.report.Report.TheVariants.{Refused}
 use Rattle.track_prove.specs.Proving.{ProveEnds}
@@ -34,7 +34,7 @@ use Rattle.track_prove.specs.Doing.{ending_of, text_told, IsReport, ProvesLines,
 
 -- ---- what is given is refused, or its lines are taken
 
-pub files_refused : (files : Option Files) (names : LogNames) (x : Prepared) (why : LogRefusal) → PreparesLog files names x → x ≡ prepared.No why → ProvesFiles files names (Refused why)
+pub files_refused : (files : Option Files) (names : LogNames) (x : PreparedLog) (why : LogRefusal) → PreparesLog files names x → x ≡ prepared.No why → ProvesFiles files names (Refused why)
 files_refused files names x why prepares is =
     let P : Result LogInput LogRefusal → Type 0 = λ i. IsReport (ProveEnds i) (IsSafeLog i) (Refused why) in
     record {
@@ -43,7 +43,7 @@ files_refused files names x why prepares is =
       report = subst P (sym (prepares.input ∙ ap log_input_by is)) (record { ends = (refl, refl); some = refused_some why; safe = λ e. absurd cc });
     }
 
-pub files_proved : (files : Option Files) (names : LogNames) (x : Prepared) (mesh : _) (lines : List LogLine) (found : Report) → PreparesLog files names x → x ≡ prepared.Yes mesh lines → ProvesLines (mesh_in mesh) lines found → ProvesFiles files names found
+pub files_proved : (files : Option Files) (names : LogNames) (x : PreparedLog) (mesh : _) (lines : List LogLine) (found : Report) → PreparesLog files names x → x ≡ prepared.Yes mesh lines → ProvesLines (mesh_in mesh) lines found → ProvesFiles files names found
 files_proved files names x mesh lines found prepares is done =
     let P : Result LogInput LogRefusal → Type 0 = λ i. IsReport (ProveEnds i) (IsSafeLog i) found in
     record {
@@ -52,7 +52,7 @@ files_proved files names x mesh lines found prepares is done =
       report = subst P (sym (prepares.input ∙ ap log_input_by is)) done;
     }
 
-pub proof_refused : (files : Option Files) (names : ProofNames) (x : Given) (why : LogRefusal) → PreparesProof files names x → x ≡ given.No why → VerifiesFiles files names (Refused why)
+pub proof_refused : (files : Option Files) (names : ProofNames) (x : Inputs) (why : LogRefusal) → PreparesProof files names x → x ≡ given.No why → VerifiesFiles files names (Refused why)
 proof_refused files names x why prepares is =
     let P : Result ProofInput LogRefusal → Type 0 = λ i. IsReport (VerifyEnds i) (IsSafeProof i) (Refused why) in
     record {
@@ -61,7 +61,7 @@ proof_refused files names x why prepares is =
       report = subst P (sym (prepares.input ∙ ap input_by is)) (record { ends = (refl, refl); some = refused_some why; safe = λ e. absurd cc });
     }
 
-pub proof_verified : (files : Option Files) (names : ProofNames) (x : Given) (mesh : _) (lines : List LogLine) (proofs : List ProofAt) (found : Report) → PreparesProof files names x → x ≡ given.Yes mesh lines proofs → VerifiesLines (mesh_in mesh) lines (proofs_view proofs) found → VerifiesFiles files names found
+pub proof_verified : (files : Option Files) (names : ProofNames) (x : Inputs) (mesh : _) (lines : List LogLine) (proofs : List ProofAt) (found : Report) → PreparesProof files names x → x ≡ given.Yes mesh lines proofs → VerifiesLines (mesh_in mesh) lines (proofs_view proofs) found → VerifiesFiles files names found
 proof_verified files names x mesh lines proofs found prepares is done =
     let P : Result ProofInput LogRefusal → Type 0 = λ i. IsReport (VerifyEnds i) (IsSafeProof i) found in
     record {

@@ -19,8 +19,8 @@ use Rattle.track_log.specs.LogJob.{LogJob, IsLogJob, LogInput, TextsRead, input_
 use Rattle.track_log.specs.Refused.{refused_text}
 use Rattle.track_prove.specs.declared.report.Report.{Report}
 use Rattle.track_prove.specs.declared.report.Report.TheVariants.{Refused, Text}
-use Rattle.track_prove.specs.declared.inputs.Given.{Given}
-use Rattle.track_prove.specs.declared.inputs.Given.TheVariants as given
+use Rattle.track_prove.specs.declared.inputs.Inputs.{Inputs}
+use Rattle.track_prove.specs.declared.inputs.Inputs.TheVariants as given
 use Rattle.track_prove.specs.Proving.{ProveEnds}
 use Rattle.track_prove.specs.Verifying.{ProofJob, IsProofJob, ProofTexts, ProofInput, read_with_proof}
 use Rattle.track_prove.specs.Verifying.{proof_input_of_read, proof_input_of, VerifyEnds}
@@ -75,20 +75,20 @@ pub record VerifiesFiles (files : Option Files) (names : ProofNames) (found : Re
 -- ---- what is given to `verify`
 
 -- what was prepared, as a job gives it
-abbrev pub input_by : Given → Result ProofInput LogRefusal
+abbrev pub input_by : Inputs → Result ProofInput LogRefusal
 input_by (given.No why) = Err why
 input_by (given.Yes mesh lines proofs) =
     Ok (record { log = record { mesh = mesh_in mesh; lines = lines }; proofs = proofs_view proofs })
 
 -- the mesh is sound, closed and clear, the lines are few, and the certificates stand in order
-abbrev pub IsReady : Given → Type 0
+abbrev pub IsReady : Inputs → Type 0
 IsReady (given.No why) = Unit {0}
 IsReady (given.Yes mesh lines proofs) =
     IsValidSurface (mesh_in mesh) × ((length lines < 2 ^ 31) × AreProofs (proofs_view proofs))
 
 -- what a read mesh, a read log and a read proof give
 pub record GivesInput (scale : Scale) (read : Result ProofTexts LogRefusal)
-    (found : Given) : Type 0 where
+    (found : Inputs) : Type 0 where
   pub input : proof_input_of_read scale read ≡ input_by found
   pub ready : IsReady found
 
@@ -97,7 +97,7 @@ abbrev pub texts_of : MeshLists → List LogLine → TextsRead
 texts_of lists lines = record { lists = lists_view lists; lines = lines }
 
 -- what the files of three names give
-pub record PreparesProof (files : Option Files) (names : ProofNames) (found : Given) : Type 0 where
+pub record PreparesProof (files : Option Files) (names : ProofNames) (found : Inputs) : Type 0 where
   pub job : ProofJob
   pub is_job : IsProofJob files names job
   pub input : proof_input_of job ≡ input_by found

@@ -12,26 +12,26 @@ use Rattle.log_run.specs.States.{LogState, with_line}
 use Rattle.log_run.specs.Fits.{LineFits}
 use Rattle.log_run.specs.Laws.{IsValidState}
 use Rattle.log_run.specs.Motions.{moved_in, IsCertified, IsJudged, IsClearWhereMoved}
-use Rattle.track_prove.specs.declared.taken_lines.Taken.{Taken}
-use Rattle.track_prove.specs.declared.taken_lines.Taken.TheVariants.{Fits, Unfit, Bad}
+use Rattle.track_prove.specs.declared.taken_lines.LineOutcome.{LineOutcome}
+use Rattle.track_prove.specs.declared.taken_lines.LineOutcome.TheVariants.{Fits, Unfit, Bad}
 use Rattle.track_prove.specs.Proving.{IsProofOf}
 
 -- A line fits, and nothing is against it; or it does not fit; or it fits, and a verdict is
 -- against it: by what is found of it.
-abbrev pub IsTaken : (Verdict → Type 0) → LogState → LogLine → Taken → Type 0
+abbrev pub IsTaken : (Verdict → Type 0) → LogState → LogLine → LineOutcome → Type 0
 IsTaken Found s line Fits = LineFits s line × Found Accepted
 IsTaken Found s line Unfit = ¬ (LineFits s line)
 IsTaken Found s line (Bad verdict) = LineFits s line × (Found verdict × (¬ (verdict ≡ Accepted)))
 
 -- a line that is taken fits, and one that is not does not
-abbrev pub IsFitOrNot : LogState → LogLine → Taken → Type 0
+abbrev pub IsFitOrNot : LogState → LogLine → LineOutcome → Type 0
 IsFitOrNot s line Fits = LineFits s line
 IsFitOrNot s line Unfit = ¬ (LineFits s line)
 IsFitOrNot s line (Bad verdict) = ⊥
 
 -- no line is taken: it does not fit, or there is no motion against it,
 -- or no certificate for its motion
-abbrev pub IsDenied : LogState → LogLine → Taken → Type 0
+abbrev pub IsDenied : LogState → LogLine → LineOutcome → Type 0
 IsDenied s line Fits = ⊥
 IsDenied s line Unfit = ¬ (LineFits s line)
 IsDenied s line (Bad verdict) = LineFits s line × (verdict ≡ NoMotion)

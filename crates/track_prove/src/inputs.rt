@@ -21,11 +21,11 @@ use outside_io::{Fetched, Outside, Stop};
 use proof_text::{Proofs, read_proof};
 use std::alloc::Global;
 use track_input::{ProofFiles, fetch_text};
-use track_log::{FetchedLog, LogRefusal, Prepared, Texts, fetch_log, read_texts, test_mesh};
+use track_log::{FetchedLog, LogRefusal, PreparedLog, Texts, fetch_log, read_texts, test_mesh};
 
 // What is given of which nothing is refused before the lines of the log are taken, or the first refusal that applies.
 #[derive(Drop)]
-pub(crate) enum Given {
+pub(crate) enum Inputs {
     // The first refusal that applies, in the order in which the work is done.
     No(LogRefusal),
     // The mesh, of which no edge meets a face that shares no vertex with it, the lines of the log, and the certificates of the proof.
@@ -33,13 +33,13 @@ pub(crate) enum Given {
 }
 
 // The mesh is tested, behind lists, a log and a proof that were read.
-fn test_given(
+fn test_inputs(
     alloc: Global,
     scale: Scale,
     lists: &MeshLists,
     lines: Log,
     proofs: Proofs,
-) -> Result<Given, NoMemory>
+) -> Result<Inputs, NoMemory>
     requires good { AreGood scale lists.now }
     requires few { length lines < 2 ^ 31 }
     requires order { AreProofs (proofs_view proofs) }
@@ -47,8 +47,8 @@ fn test_given(
         IfOk result (GivesInput scale (read_with_proof texts (Ok (proofs_view proofs)))) }
 {
     match test_mesh(alloc, scale, lists, lines)? {
-        Prepared::No(why) => Ok(Given::No(why)),
-        Prepared::Yes(mesh, lines) => Ok(Given::Yes(mesh, lines, proofs)),
+        PreparedLog::No(why) => Ok(Inputs::No(why)),
+        PreparedLog::Yes(mesh, lines) => Ok(Inputs::Yes(mesh, lines, proofs)),
     }
 }
 
@@ -59,7 +59,7 @@ fn read_proof_of(
     lists: MeshLists,
     lines: Log,
     proof: &[u8],
-) -> Result<Given, NoMemory>
+) -> Result<Inputs, NoMemory>
     requires good { AreGood scale lists }
     requires few { length lines < 2 ^ 31 }
     requires proof_length { length proof.now ≤ TEXT_MAX }
@@ -67,9 +67,9 @@ fn read_proof_of(
         IfOk result (GivesInput scale (read_with_proof texts (proofs_of proof.now))) }
 {
     match read_proof(alloc, proof) {
-        Ok(proofs) => test_given(alloc, scale, &lists, lines, proofs),
+        Ok(proofs) => test_inputs(alloc, scale, &lists, lines, proofs),
         Err(ReadFault::NoMemory) => Err(NoMemory),
-        Err(ReadFault::Text(fault)) => Ok(Given::No(LogRefusal::Proof(fault))),
+        Err(ReadFault::Text(fault)) => Ok(Inputs::No(LogRefusal::Proof(fault))),
     }
 }
 
@@ -81,7 +81,7 @@ fn read_all(
     mesh: &[u8],
     log: &[u8],
     proof: &[u8],
-) -> Result<Given, NoMemory>
+) -> Result<Inputs, NoMemory>
     requires few { decimals ≤ DECIMALS_MAX }
     requires mesh_length { length mesh.now ≤ TEXT_MAX }
     requires log_length { length log.now ≤ TEXT_MAX }
@@ -90,7 +90,7 @@ fn read_all(
         IfOk result (GivesInput scale (read_with_proof texts (proofs_of proof.now))) }
 {
     match read_texts(alloc, scale, decimals, mesh, log)? {
-        Texts::No(why) => Ok(Given::No(why)),
+        Texts::No(why) => Ok(Inputs::No(why)),
         Texts::Yes(lists, lines) => read_proof_of(alloc, scale, lists, lines, proof),
     }
 }
@@ -101,25 +101,25 @@ pub(crate) fn prepare_proof<O: Outside>(
     alloc: Global,
     given: ProofFiles<'_>,
     outside: &mut O,
-) -> Result<Given, Stop>
+) -> Result<Inputs, Stop>
     requires few { given.files.decimals ≤ DECIMALS_MAX }
     ensures prepares { let held = (O.around outside.old).world.holds.files in
         IfOk result (PreparesProof held (proof_names given.entry)) }
     ensures looks { OnlyLooks (O.around outside.old) (O.around outside.new) result }
 {
     let (mesh, log) = match fetch_log(alloc, given.files, outside)? {
-        FetchedLog::No(why) => return Ok(Given::No(why)),
+        FetchedLog::No(why) => return Ok(Inputs::No(why)),
         FetchedLog::Yes(mesh, log) => (mesh, log),
     };
     let proof = match fetch_text(alloc, given.files.scale, outside, given.proof)? {
         Fetched::Bytes(bytes) => bytes,
         Fetched::Absent => {
-            return Ok(Given::No(LogRefusal::Input(Refusal::Missing {
+            return Ok(Inputs::No(LogRefusal::Input(Refusal::Missing {
                 file: FileWord::Proof,
             })));
         }
         Fetched::TooLong(seen) => {
-            return Ok(Given::No(LogRefusal::Input(Refusal::Long {
+            return Ok(Inputs::No(LogRefusal::Input(Refusal::Long {
                 file: FileWord::Proof,
                 seen,
             })));

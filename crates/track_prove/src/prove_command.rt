@@ -6,7 +6,7 @@ ghost use Rattle.mesh_journal.specs.Journal.{mesh_in};
 ghost use Rattle.log_run.specs.Laws.{IsValidState};
 ghost use Rattle.log_run.specs.Motions.{moved_in};
 ghost use Rattle.log_run.specs.States.{without_lines};
-ghost use Rattle.outside_io.specs.Outside.{OnlyLooks};
+ghost use Rattle.outside_io.specs.Outside.{OnlyLooks, InWorld};
 ghost use Rattle.track_input.specs.Named.{log_names};
 ghost use Rattle.track_prove.specs.Proving.{MakesVerdict};
 ghost use Rattle.track_prove.specs.Taking.{IsMadeHere, IsTaken, Goes, AddsProof};
@@ -14,7 +14,7 @@ ghost use Rattle.track_prove.specs.Doing.{ProvesLines, ProvesFiles};
 ghost use Rattle.track_prove.specs.Headline.{Proves};
 
 use crate::report::{Report, tell};
-use crate::taken_lines::{Taken, take_clear};
+use crate::taken_lines::{LineOutcome, take_clear};
 use grid_base::NoMemory;
 use log_run::LogRun;
 use log_run::laws::fitting_lines_are_safe;
@@ -26,7 +26,7 @@ use outside_io::{Fact, Outside, Stop};
 use proof_text::{ProofAt, Proofs, print_proof};
 use std::alloc::Global;
 use track_input::LogFiles;
-use track_log::{LogRefusal, Prepared, prepare_log};
+use track_log::{LogRefusal, PreparedLog, prepare_log};
 
 // Takes a line that fits, and puts the certificate of its motion behind the others.
 fn take_proved(
@@ -35,15 +35,15 @@ fn take_proved(
     line: &LogLine,
     proof: Certificate,
     proofs: &mut Proofs,
-) -> Result<Taken, NoMemory>
+) -> Result<LineOutcome, NoMemory>
     requires unspent { run.old.is_spent ≡ false }
     requires valid { IsValidState run.old }
     requires made { IsMadeHere run.old line.now (Made.Proof proof) }
     ensures told { let motion = moved_in run.old.replay line.now in
         IfOk result (IsTaken (MakesVerdict motion) run.old line.now) }
-    ensures goes { result ≡ Ok Taken.Fits → Goes run.old line.now run.new }
+    ensures goes { result ≡ Ok LineOutcome.Fits → Goes run.old line.now run.new }
     ensures proofs { let motion = moved_in run.old.replay line.now in
-        result ≡ Ok Taken.Fits → AddsProof number motion proofs.old proofs.new }
+        result ≡ Ok LineOutcome.Fits → AddsProof number motion proofs.old proofs.new }
 {
     accepted_motions_are_clear();
     proofs.push(ProofAt {
@@ -60,18 +60,18 @@ fn take_made(
     line: &LogLine,
     made: Made,
     proofs: &mut Proofs,
-) -> Result<Taken, NoMemory>
+) -> Result<LineOutcome, NoMemory>
     requires unspent { run.old.is_spent ≡ false }
     requires valid { IsValidState run.old }
     requires made { IsMadeHere run.old line.now made }
     ensures told { let motion = moved_in run.old.replay line.now in
         IfOk result (IsTaken (MakesVerdict motion) run.old line.now) }
-    ensures goes { result ≡ Ok Taken.Fits → Goes run.old line.now run.new }
+    ensures goes { result ≡ Ok LineOutcome.Fits → Goes run.old line.now run.new }
     ensures proofs { let motion = moved_in run.old.replay line.now in
-        result ≡ Ok Taken.Fits → AddsProof number motion proofs.old proofs.new }
+        result ≡ Ok LineOutcome.Fits → AddsProof number motion proofs.old proofs.new }
 {
     match made {
-        Made::Fails(pair) => Ok(Taken::Bad(Verdict::Missing(pair))),
+        Made::Fails(pair) => Ok(LineOutcome::Bad(Verdict::Missing(pair))),
         Made::Proof(proof) => take_proved(run, number, line, proof, proofs),
     }
 }
@@ -83,14 +83,14 @@ fn prove_line(
     number: u32,
     line: &LogLine,
     proofs: &mut Proofs,
-) -> Result<Taken, NoMemory>
+) -> Result<LineOutcome, NoMemory>
     requires unspent { run.old.is_spent ≡ false }
     requires valid { IsValidState run.old }
     ensures told { let motion = moved_in run.old.replay line.now in
         IfOk result (IsTaken (MakesVerdict motion) run.old line.now) }
-    ensures goes { result ≡ Ok Taken.Fits → Goes run.old line.now run.new }
+    ensures goes { result ≡ Ok LineOutcome.Fits → Goes run.old line.now run.new }
     ensures proofs { let motion = moved_in run.old.replay line.now in
-        result ≡ Ok Taken.Fits → AddsProof number motion proofs.old proofs.new }
+        result ≡ Ok LineOutcome.Fits → AddsProof number motion proofs.old proofs.new }
 {
     match run.certify(line)? {
         None => take_clear(run, line),
@@ -119,11 +119,11 @@ fn prove_each<O: Outside>(
         number += 1;
         outside.hear(Fact::Taken { lines: number });
         match prove_line(run, number, line, proofs)? {
-            Taken::Fits => {}
-            Taken::Unfit => {
+            LineOutcome::Fits => {}
+            LineOutcome::Unfit => {
                 return Ok(Report::Refused(LogRefusal::Replay { line: number }));
             }
-            Taken::Bad(verdict) => {
+            LineOutcome::Bad(verdict) => {
                 return Ok(Report::Refused(LogRefusal::Motion {
                     line: number,
                     verdict,
@@ -168,8 +168,10 @@ fn prove_files<O: Outside>(
     ensures looks { OnlyLooks (O.around outside.old) (O.around outside.new) result }
 {
     match prepare_log(alloc, files, outside)? {
-        Prepared::No(why) => Ok(Report::Refused(why)),
-        Prepared::Yes(mesh, lines) => { Ok(prove_lines(alloc, mesh, lines.as_slice(), outside)?) },
+        PreparedLog::No(why) => Ok(Report::Refused(why)),
+        PreparedLog::Yes(mesh, lines) => {
+            Ok(prove_lines(alloc, mesh, lines.as_slice(), outside)?)
+        },
     }
 }
 
@@ -187,7 +189,7 @@ pub fn prove<O: Outside>(
     outside: &mut O,
 ) -> Result<Option<LogRefusal>, Stop>
     requires few { files.decimals ≤ DECIMALS_MAX }
-    ensures headline { Proves (log_names files.entry) result (O.around outside.old).world (O.around outside.new).world }
+    ensures headline { InWorld O.around outside (Proves (log_names files.entry) result) }
     ensures same { (O.around outside.new).sides ≡ (O.around outside.old).sides }
 {
     let report = prove_files(alloc, files, outside)?;

@@ -13,7 +13,7 @@ use log_text::LogLine;
 use motion_proof::Verdict;
 
 // What becomes of a line.
-pub(crate) enum Taken {
+pub(crate) enum LineOutcome {
     // It fits, and nothing is against it: it is taken.
     Fits,
     // It does not fit.
@@ -44,31 +44,31 @@ fn moves_something(change: &Change) -> bool
 }
 
 // Takes a line, where it fits, of which the motion is clear as its kind claims.
-pub(crate) fn take_clear(run: &mut LogRun, line: &LogLine) -> Result<Taken, NoMemory>
+pub(crate) fn take_clear(run: &mut LogRun, line: &LogLine) -> Result<LineOutcome, NoMemory>
     requires unspent { run.old.is_spent ≡ false }
     requires valid { IsValidState run.old }
     requires clear { IsClearIfFits run.old line.now }
     ensures told { IfOk result (IsFitOrNot run.old line.now) }
-    ensures goes { result ≡ Ok Taken.Fits → Goes run.old line.now run.new }
+    ensures goes { result ≡ Ok LineOutcome.Fits → Goes run.old line.now run.new }
 {
     fitting_lines_are_safe();
     clear_motions_are_clear_steps();
     if run.take(line)? {
-        Ok(Taken::Fits)
+        Ok(LineOutcome::Fits)
     } else {
-        Ok(Taken::Unfit)
+        Ok(LineOutcome::Unfit)
     }
 }
 
 // What becomes of a line that is a motion where the proof has none, or none where it has one: it does not fit, or that is against it.
-pub(crate) fn deny(run: &mut LogRun, line: &LogLine) -> Result<Taken, NoMemory>
+pub(crate) fn deny(run: &mut LogRun, line: &LogLine) -> Result<LineOutcome, NoMemory>
     requires unspent { run.old.is_spent ≡ false }
     requires valid { IsValidState run.old }
     ensures { IfOk result (IsDenied run.old line.now) }
 {
     if run.take(line)? {
-        Ok(Taken::Bad(Verdict::NoMotion))
+        Ok(LineOutcome::Bad(Verdict::NoMotion))
     } else {
-        Ok(Taken::Unfit)
+        Ok(LineOutcome::Unfit)
     }
 }

@@ -8,16 +8,16 @@ ghost use Rattle.proof_text.specs.Views.{proof_view, proofs_view};
 ghost use Rattle.log_run.specs.Laws.{IsValidState};
 ghost use Rattle.log_run.specs.Motions.{moved_in};
 ghost use Rattle.log_run.specs.States.{without_lines};
-ghost use Rattle.outside_io.specs.Outside.{OnlyLooks};
+ghost use Rattle.outside_io.specs.Outside.{OnlyLooks, InWorld};
 ghost use Rattle.track_input.specs.Named.{proof_names};
 ghost use Rattle.track_prove.specs.Verifying.{FoundOf, verified_text};
 ghost use Rattle.track_prove.specs.Taking.{IsJudgedHere, IsTaken, Goes, front_at, behind, first_line};
 ghost use Rattle.track_prove.specs.Doing.{EndsWellWith, VerifiesLines, VerifiesFiles};
 ghost use Rattle.track_prove.specs.Headline.{Verifies};
 
-use crate::inputs::{Given, prepare_proof};
+use crate::inputs::{Inputs, prepare_proof};
 use crate::report::{Report, tell};
-use crate::taken_lines::{Taken, deny, take_clear, tells_motion};
+use crate::taken_lines::{LineOutcome, deny, take_clear, tells_motion};
 use grid_base::NoMemory;
 use line_text::{Field, put_line};
 use log_run::LogRun;
@@ -64,28 +64,28 @@ fn take_judged(
     line: &LogLine,
     at: &ProofAt,
     verdict: Verdict,
-) -> Result<Taken, NoMemory>
+) -> Result<LineOutcome, NoMemory>
     requires unspent { run.old.is_spent ≡ false }
     requires valid { IsValidState run.old }
     requires judged { IsJudgedHere run.old line.now at.now verdict }
     ensures told { let motion = moved_in run.old.replay line.now in
         IfOk result (IsTaken (FoundOf motion (Some (proof_view at.now))) run.old line.now) }
-    ensures goes { result ≡ Ok Taken.Fits → Goes run.old line.now run.new }
+    ensures goes { result ≡ Ok LineOutcome.Fits → Goes run.old line.now run.new }
 {
     accepted_motions_are_clear();
     match verdict {
         Verdict::Accepted => take_clear(run, line),
-        _ => Ok(Taken::Bad(verdict)),
+        _ => Ok(LineOutcome::Bad(verdict)),
     }
 }
 
 // Takes a line for which there is a certificate, where it fits and the certificate proves its motion.
-fn verify_by(run: &mut LogRun, line: &LogLine, at: &ProofAt) -> Result<Taken, NoMemory>
+fn verify_by(run: &mut LogRun, line: &LogLine, at: &ProofAt) -> Result<LineOutcome, NoMemory>
     requires unspent { run.old.is_spent ≡ false }
     requires valid { IsValidState run.old }
     ensures told { let motion = moved_in run.old.replay line.now in
         IfOk result (IsTaken (FoundOf motion (Some (proof_view at.now))) run.old line.now) }
-    ensures goes { result ≡ Ok Taken.Fits → Goes run.old line.now run.new }
+    ensures goes { result ≡ Ok LineOutcome.Fits → Goes run.old line.now run.new }
 {
     match run.judge(line, &at.proof)? {
         Some(verdict) => take_judged(run, line, at, verdict),
@@ -94,12 +94,12 @@ fn verify_by(run: &mut LogRun, line: &LogLine, at: &ProofAt) -> Result<Taken, No
 }
 
 // Takes a line for which there is no certificate, where it fits and tells of no motion.
-fn verify_bare(run: &mut LogRun, line: &LogLine) -> Result<Taken, NoMemory>
+fn verify_bare(run: &mut LogRun, line: &LogLine) -> Result<LineOutcome, NoMemory>
     requires unspent { run.old.is_spent ≡ false }
     requires valid { IsValidState run.old }
     ensures told { let motion = moved_in run.old.replay line.now in
         IfOk result (IsTaken (FoundOf motion None) run.old line.now) }
-    ensures goes { result ≡ Ok Taken.Fits → Goes run.old line.now run.new }
+    ensures goes { result ≡ Ok LineOutcome.Fits → Goes run.old line.now run.new }
 {
     if tells_motion(line) {
         deny(run, line)
@@ -114,12 +114,12 @@ fn verify_line(
     number: u32,
     line: &LogLine,
     proofs: &[ProofAt],
-) -> Result<Taken, NoMemory>
+) -> Result<LineOutcome, NoMemory>
     requires unspent { run.old.is_spent ≡ false }
     requires valid { IsValidState run.old }
     ensures told { let motion = moved_in run.old.replay line.now in
         IfOk result (IsTaken (FoundOf motion (front_at (proofs_view proofs.now) number)) run.old line.now) }
-    ensures goes { result ≡ Ok Taken.Fits → Goes run.old line.now run.new }
+    ensures goes { result ≡ Ok LineOutcome.Fits → Goes run.old line.now run.new }
 {
     match front_at(proofs, number) {
         Some(at) => verify_by(run, line, at),
@@ -138,7 +138,7 @@ fn first_line(proofs: &[ProofAt]) -> Option<u32>
 }
 
 // The report that so many motions are proved.
-fn verified(alloc: Global, motions: usize) -> Result<Report, NoMemory>
+fn verified_report(alloc: Global, motions: usize) -> Result<Report, NoMemory>
     ensures { IfOk result (λ report. EndsWellWith report (verified_text motions)) }
 {
     let mut text = Vec::new(alloc);
@@ -173,11 +173,11 @@ fn verify_each<O: Outside>(
         number += 1;
         outside.hear(Fact::Taken { lines: number });
         match verify_line(run, number, line, rest)? {
-            Taken::Fits => {}
-            Taken::Unfit => {
+            LineOutcome::Fits => {}
+            LineOutcome::Unfit => {
                 return Ok(Report::Refused(LogRefusal::Replay { line: number }));
             }
-            Taken::Bad(verdict) => {
+            LineOutcome::Bad(verdict) => {
                 return Ok(Report::Refused(LogRefusal::Motion {
                     line: number,
                     verdict,
@@ -194,7 +194,7 @@ fn verify_each<O: Outside>(
             line,
             verdict: Verdict::NoMotion,
         })),
-        None => verified(alloc, proofs.len()),
+        None => verified_report(alloc, proofs.len()),
     }
 }
 
@@ -229,8 +229,8 @@ fn verify_files<O: Outside>(
     ensures looks { OnlyLooks (O.around outside.old) (O.around outside.new) result }
 {
     match prepare_proof(alloc, given, outside)? {
-        Given::No(why) => Ok(Report::Refused(why)),
-        Given::Yes(mesh, lines, proofs) => {
+        Inputs::No(why) => Ok(Report::Refused(why)),
+        Inputs::Yes(mesh, lines, proofs) => {
             let proofs = proofs.as_slice();
             Ok(verify_lines(alloc, mesh, lines.as_slice(), proofs, outside)?)
         }
@@ -252,7 +252,7 @@ pub fn verify<O: Outside>(
     outside: &mut O,
 ) -> Result<Option<LogRefusal>, Stop>
     requires few { files.files.decimals ≤ DECIMALS_MAX }
-    ensures headline { Verifies (proof_names files.entry) result (O.around outside.old).world (O.around outside.new).world }
+    ensures headline { InWorld O.around outside (Verifies (proof_names files.entry) result) }
     ensures same { (O.around outside.new).sides ≡ (O.around outside.old).sides }
 {
     let report = verify_files(alloc, files, outside)?;

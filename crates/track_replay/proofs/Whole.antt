@@ -11,8 +11,8 @@ use Rattle.outside_io.specs.World.{World, Contents}
 use Rattle.outside_io.proofs.Outsides.{counts_then, counts_stopped}
 use Rattle.track_input.specs.Words.{ReplayNames}
 use Rattle.track_log.specs.declared.LogRefusal.{LogRefusal}
-use Rattle.track_log.specs.declared.Prepared.{Prepared}
-use Rattle.track_log.specs.declared.Prepared.TheVariants as prepared
+use Rattle.track_log.specs.declared.PreparedLog.{PreparedLog}
+use Rattle.track_log.specs.declared.PreparedLog.TheVariants as prepared
 use Rattle.track_log.specs.LogJob.{LogJob, IsLogJob, LogInput, input_of}
 use Rattle.track_log.specs.Preparing.{PreparesLog}
 use Rattle.track_log.specs.Taking.{FitsTested}
@@ -53,15 +53,15 @@ stops_at_once stop no_sink texts old new kept =
 
 module _ (names : ReplayNames) (a b : Around) where
   -- it is stopped before a line is taken
-  pub replays_stopped : (stop : Stop) → OnlyLooks {T = Prepared} a b (Err stop) → Replays names (Err stop) a.world b.world
+  pub replays_stopped : (stop : Stop) → OnlyLooks {T = PreparedLog} a b (Err stop) → Replays names (Err stop) a.world b.world
   replays_stopped stop looks =
       let some = some_log_job a.world.holds.files names.names in
       replays_of names a.world b.world some.0 some.1 (input_of some.0) refl (Err stop)
       (λ ending h. inl (stops_at_once stop (λ sink. looks.no_sink (ap Err sink)) (texts_stored names.only (target_in names) (input_of some.0) ending) (holds_of a) (holds_of b) looks.kept))
       (counts_stopped a b stop looks.counts).causes
 
-  module _ (c : Around) (p : Result Prepared Stop) (looks : OnlyLooks a b p) (x : Prepared) (prepares : PreparesLog a.world.holds.files names.names x) (r : Result (Option LogRefusal) Stop) where
-    input_is : (found : Prepared) → x ≡ found → PreparesLog a.world.holds.files names.names found
+  module _ (c : Around) (p : Result PreparedLog Stop) (looks : OnlyLooks a b p) (x : PreparedLog) (prepares : PreparesLog a.world.holds.files names.names x) (r : Result (Option LogRefusal) Stop) where
+    input_is : (found : PreparedLog) → x ≡ found → PreparesLog a.world.holds.files names.names found
     input_is found e = subst (PreparesLog a.world.holds.files names.names) e prepares
 
     unwritten : b.world.holds.written ≡ a.world.holds.written

@@ -5,6 +5,7 @@ ghost use Rattle.mesh_base.specs.Valid.{IsValidSurface};
 ghost use Rattle.mesh_journal.specs.Journal.{mesh_in};
 ghost use Rattle.log_run.specs.Laws.{IsValidState};
 ghost use Rattle.log_run.specs.States.{without_lines};
+ghost use Rattle.outside_io.specs.Outside.{InWorld};
 ghost use Rattle.track_input.specs.Named.{replay_names};
 ghost use Rattle.track_log.specs.Telling.{Tells};
 ghost use Rattle.track_engine.specs.Targets.{target_of};
@@ -21,7 +22,7 @@ use outside_io::{Fact, Outside, Stop};
 use std::alloc::Global;
 use track_engine::Target;
 use track_input::ReplayFiles;
-use track_log::{LogRefusal, Prepared, prepare_log, put_text, refuse, take_tested};
+use track_log::{LogRefusal, PreparedLog, prepare_log, put_text, refuse, take_tested};
 
 // Writes how many meshes are stored.
 fn tell_count<O: Outside>(alloc: Global, count: u32, outside: &mut O) -> Result<(), Stop>
@@ -106,13 +107,12 @@ pub fn replay<O: Outside>(
     outside: &mut O,
 ) -> Result<Option<LogRefusal>, Stop>
     requires few { given.files.decimals ≤ DECIMALS_MAX }
-    ensures headline { Replays (replay_names given.entry) result
-        (O.around outside.old).world (O.around outside.new).world }
+    ensures headline { InWorld O.around outside (Replays (replay_names given.entry) result) }
     ensures same { (O.around outside.new).sides ≡ (O.around outside.old).sides }
 {
     match prepare_log(alloc, given.files, outside)? {
-        Prepared::No(why) => refuse(alloc, &why, outside),
-        Prepared::Yes(mesh, lines) => {
+        PreparedLog::No(why) => refuse(alloc, &why, outside),
+        PreparedLog::Yes(mesh, lines) => {
             let to = Target {
                 prefix: given.prefix,
                 decimals: given.files.decimals,

@@ -44,4 +44,4 @@ returns-in-Some-clause-verifies g c = verifying_beyond c.args.run.now.replay.mes
 pub returns-in-None-clause-verifies : goal.returns-in-None-clause-verifies
 returns-in-None-clause-verifies g c =
     verifying_end c.args.run.now.replay.mesh c.args.lines.now (proofs_view c.args.proofs.now) c.loop-line.line-index c.loop-line-test.false c.loop-line.run c.loop-line.number (proofs_view c.loop-line.rest.now) c.loop-line.invariant.0 c.if-number-eq0.false
-    c.args.proofs.now (length c.args.proofs.now) c.in-None.ensures refl refl c.verified.result c.verified.ensures
+    c.args.proofs.now (length c.args.proofs.now) c.in-None.ensures refl refl c.verified_report.result c.verified_report.ensures

@@ -1,7 +1,7 @@
 use Rattle.std.proofs.Common.{refl}
 use Rattle.proof_text.specs.Views.{proofs_view}
 use Rattle.track_prove.proofs.Prepare.{gives_meeting, gives_all}
-use Rattle.track_prove.proofs.inputs.test_given.Goals as goal
+use Rattle.track_prove.proofs.inputs.test_inputs.Goals as goal
 
 pub returns-in-No : goal.returns-in-No
 returns-in-No c = gives_meeting c.args.scale c.args.lists.now c.args.lines (proofs_view c.args.proofs) c.in_ok-why.field-0 c.in_ok-why.ensures c.in-No.why c.in-No.is
