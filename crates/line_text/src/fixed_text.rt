@@ -1,4 +1,4 @@
-ghost use Rattle.std.specs.Prelude.{◌≡◌, ◌≤◌, ◌<◌, ◌^◌, ◌/◌, ◌-◌, ◌++◌, ◌∷◌, [], length, drop, OnErr};
+ghost use Rattle.std.specs.Prelude.{◌≡◌, ◌≤◌, ◌<◌, ◌^◌, ◌/◌, ◌-◌, ◌++◌, ◌∷◌, [], length, drop, OnErr, OnOk};
 ghost use Rattle.grid_base.specs.declared.TheConstants.{DECIMALS_MAX};
 ghost use Rattle.line_text.specs.Numbers as spec;
 ghost use Rattle.line_text.specs.WrittenLines.{Appends};
@@ -66,7 +66,8 @@ pub fn fixed(value: i32, decimals: u8, into: &mut Vec<u8>) -> Result<(), NoMemor
 /// Appends the text of a value on the grid, as `fixed` writes it, and the byte after it. On refusal `out` is as before.
 pub fn put_coordinate(out: &mut Vec<u8>, value: i32, decimals: u8, end: u8) -> Result<(), NoMemory>
     requires { decimals ≤ DECIMALS_MAX }
-    ensures ok { Appends result out.old out.new (spec.fixed_text decimals value ++ end ∷ []) }
+    ensures ok { OnOk result
+        (out.new.items ≡ out.old.items ++ spec.fixed_text decimals value ++ end ∷ []) }
     ensures err { OnErr result (out.new.items ≡ out.old.items) }
 {
     let start = out.len();
