@@ -11,7 +11,7 @@ use Rattle.outside_io.specs.Sink.{appended, AppendsPart}
 use Rattle.outside_io.specs.World.{Contents}
 use Rattle.outside_io.proofs.Outsides.{counts_then, counts_stopped}
 use Rattle.track_input.specs.Words.{MeshName}
-use Rattle.track_check.specs.declared.file_lists.Found.{Found}
+use Rattle.track_check.specs.declared.file_lists.FileLists.{FileLists}
 use Rattle.track_check.specs.Check.{found_by, text_told, ending_told}
 use Rattle.track_check.specs.Finding.{found_view, Finds}
 use Rattle.track_check.specs.Endings.{Ends}
@@ -31,7 +31,7 @@ module _ (scale : Scale) (lists : Lists) (text : List ℕ) (is : text ≡ text_t
 
 -- ---- the file was found, or was not
 module _ (scale : Scale) (mesh : MeshName) (decimals : ℕ) (a b : Around) where
-  pub found_ends : (p : Result Found Stop) → OnlyLooks a b p → (x found : Found) → x ≡ found → Finds scale a.world.holds.files mesh decimals x → (c : Around) (result : Result (Option Refusal) Stop)
+  pub found_ends : (p : Result FileLists Stop) → OnlyLooks a b p → (x found : FileLists) → x ≡ found → Finds scale a.world.holds.files mesh decimals x → (c : Around) (result : Result (Option Refusal) Stop)
       → Ends scale (found_view found) result b.world.holds c.world.holds → Counts b c result → Checks scale mesh decimals result a.world c.world
   found_ends p looks x found e finds c result ends counts =
       let P : Contents → Type 0 = λ holds. Ends scale (found_view found) result holds c.world.holds in
@@ -45,7 +45,7 @@ module _ (scale : Scale) (mesh : MeshName) (decimals : ℕ) (a b : Around) where
   stopped_so DeskFault found kept no_sink = kept
   stopped_so SinkFault found kept no_sink = absurd (no_sink refl)
 
-  pub stopped_ends : (stop : Stop) → OnlyLooks {T = Found} a b (Err stop) → Checks scale mesh decimals (Err stop) a.world b.world
+  pub stopped_ends : (stop : Stop) → OnlyLooks {T = FileLists} a b (Err stop) → Checks scale mesh decimals (Err stop) a.world b.world
   stopped_ends stop looks =
       let some = some_check scale a.world.holds.files mesh decimals in
       checks scale mesh decimals a.world b.world some.0 (Err stop) some.1

@@ -11,8 +11,8 @@ use Rattle.track_input.specs.Fetched.{source_of}
 use Rattle.track_input.specs.Source.{Source, Bytes, Absent, TooLong, IsSource}
 use Rattle.track_input.specs.Words.{MeshName}
 use Rattle.track_input.proofs.Sources.{some_source}
-use Rattle.track_check.specs.declared.file_lists.Found.{Found}
-use Rattle.track_check.specs.declared.file_lists.Found.TheVariants as found
+use Rattle.track_check.specs.declared.file_lists.FileLists.{FileLists}
+use Rattle.track_check.specs.declared.file_lists.FileLists.TheVariants as found
 use Rattle.track_check.specs.Check.{Check, IsCheck}
 use Rattle.track_check.specs.Finding.{Finds, Reads}
 
@@ -36,7 +36,7 @@ module _ (scale : Scale) (files : Option Files) (mesh : MeshName) (decimals : �
   pub finds_long : (f : Fetched) (seen : ℕ) → f ≡ fetched.TooLong seen → IsSource scale files mesh.name (source_of f) → Finds scale files mesh decimals (found.No (refusal.Long file.Mesh seen))
   finds_long f seen e h = record { check = check_of (TooLong seen); is_check = is_check_of (TooLong seen) (source_at f (fetched.TooLong seen) e h); given = refl }
 
-  pub finds_read : (f : Fetched) (bytes : List ℕ) → source_of f ≡ Bytes bytes → IsSource scale files mesh.name (source_of f) → (r : Found) → Reads mesh.format decimals bytes r → Finds scale files mesh decimals r
+  pub finds_read : (f : Fetched) (bytes : List ℕ) → source_of f ≡ Bytes bytes → IsSource scale files mesh.name (source_of f) → (r : FileLists) → Reads mesh.format decimals bytes r → Finds scale files mesh decimals r
   finds_read f bytes e h r reads = record {
     check = check_of (Bytes bytes);
     is_check = is_check_of (Bytes bytes) (let P : Source → Type 0 = λ s. IsSource scale files mesh.name s in subst P e h);

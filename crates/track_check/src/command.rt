@@ -1,12 +1,12 @@
 ghost use Rattle.std.specs.Prelude.{◌≡◌, ◌≤◌, Ok, Err};
 ghost use Rattle.grid_base.specs.declared.TheConstants.{DECIMALS_MAX};
 ghost use Rattle.obj_text.specs.Views.{lists_view};
-ghost use Rattle.outside_io.specs.Outside.{Counts};
+ghost use Rattle.outside_io.specs.Outside.{Counts, InWorld};
 ghost use Rattle.track_input.specs.Named.{mesh_name};
 ghost use Rattle.track_check.specs.Endings.{Ends};
 ghost use Rattle.track_check.specs.Headline.{Checks};
 
-use crate::file_lists::{Found, find};
+use crate::file_lists::{FileLists, find};
 use crate::list_faults::{faults_told, first_of};
 use crate::report::report_of;
 use log_text::{LogLine, Refusal};
@@ -65,12 +65,11 @@ pub fn check<O: Outside>(
     outside: &mut O,
 ) -> Result<Option<Refusal>, Stop>
     requires few { decimals ≤ DECIMALS_MAX }
-    ensures headline { Checks scale (mesh_name mesh.entry) decimals result
-        (O.around outside.old).world (O.around outside.new).world }
+    ensures headline { InWorld O.around outside (Checks scale (mesh_name mesh.entry) decimals result) }
     ensures same { (O.around outside.new).sides ≡ (O.around outside.old).sides }
 {
     match find(alloc, scale, mesh, decimals, outside)? {
-        Found::No(why) => refuse(alloc, scale, &why, outside),
-        Found::Lists(lists) => tell(alloc, scale, &lists, outside),
+        FileLists::No(why) => refuse(alloc, scale, &why, outside),
+        FileLists::Lists(lists) => tell(alloc, scale, &lists, outside),
     }
 }

@@ -15,7 +15,7 @@ use track_input::{Format, MeshFile, fetch_text};
 
 // What a mesh file gives.
 #[derive(Drop)]
-pub(crate) enum Found {
+pub(crate) enum FileLists {
     // The file is missing or too long, or its text is outside the grammar.
     No(Refusal),
     // Lists, of whatever shape.
@@ -23,15 +23,20 @@ pub(crate) enum Found {
 }
 
 // What a text gives.
-fn read_all(alloc: Global, format: Format, bytes: &[u8], decimals: u8) -> Result<Found, NoMemory>
+fn read_all(
+    alloc: Global,
+    format: Format,
+    bytes: &[u8],
+    decimals: u8,
+) -> Result<FileLists, NoMemory>
     requires few { decimals ≤ DECIMALS_MAX }
     requires small { length bytes.now ≤ TEXT_MAX }
     ensures { IfOk result (Reads format decimals bytes.now) }
 {
     match read_lists(alloc, format, bytes, decimals) {
-        Ok(lists) => Ok(Found::Lists(lists)),
+        Ok(lists) => Ok(FileLists::Lists(lists)),
         Err(ReadFault::NoMemory) => Err(NoMemory),
-        Err(ReadFault::Text(fault)) => Ok(Found::No(Refusal::Mesh(fault))),
+        Err(ReadFault::Text(fault)) => Ok(FileLists::No(Refusal::Mesh(fault))),
     }
 }
 
@@ -42,7 +47,7 @@ pub(crate) fn find<O: Outside>(
     mesh: MeshFile<'_>,
     decimals: u8,
     outside: &mut O,
-) -> Result<Found, Stop>
+) -> Result<FileLists, Stop>
     requires few { decimals ≤ DECIMALS_MAX }
     ensures finds { let files = (O.around outside.old).world.holds.files in
         IfOk result (Finds scale files (mesh_name mesh.entry) decimals) }
@@ -51,12 +56,12 @@ pub(crate) fn find<O: Outside>(
     let bytes = match fetch_text(alloc, scale, outside, mesh.name)? {
         Fetched::Bytes(bytes) => bytes,
         Fetched::Absent => {
-            return Ok(Found::No(Refusal::Missing {
+            return Ok(FileLists::No(Refusal::Missing {
                 file: FileWord::Mesh,
             }));
         }
         Fetched::TooLong(seen) => {
-            return Ok(Found::No(Refusal::Long {
+            return Ok(FileLists::No(Refusal::Long {
                 file: FileWord::Mesh,
                 seen,
             }));

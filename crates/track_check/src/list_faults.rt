@@ -37,7 +37,7 @@ fn of_pairs(alloc: Global, found: &[PairName]) -> Result<Vec<Fault>, NoMemory>
 }
 
 // The pairs that meet, of lists of good shape, as far as they are told.
-fn meeting_told(alloc: Global, scale: Scale, lists: &MeshLists) -> Result<Vec<Fault>, NoMemory>
+fn meeting_faults(alloc: Global, scale: Scale, lists: &MeshLists) -> Result<Vec<Fault>, NoMemory>
     requires good { shape_fault scale (length lists.now.points) lists.now.faces ≡ None }
     ensures { let m = mesh_under scale lists.now.points lists.now.faces in IfOk result
         (λ faults. faults.items ≡ map pair_as_fault (take FAULTS_MAX (meeting_pairs m))) }
@@ -57,7 +57,7 @@ pub(crate) fn faults_told(
 {
     let found = shape_faults(alloc, scale, lists, FAULTS_MAX)?;
     if found.is_empty() {
-        return meeting_told(alloc, scale, lists);
+        return meeting_faults(alloc, scale, lists);
     }
     of_shape(alloc, &found)
 }

@@ -1,6 +1,6 @@
 use Rattle.std.proofs.lemmas.Result.{err_from_is_err_and}
 use Rattle.track_input.specs.Named.{mesh_name}
-use Rattle.track_check.specs.declared.file_lists.Found.TheVariants as found
+use Rattle.track_check.specs.declared.file_lists.FileLists.TheVariants as found
 use Rattle.track_check.proofs.Ended.{found_ends, stopped_ends}
 use Rattle.track_check.proofs.command.check.Goals as goal
 

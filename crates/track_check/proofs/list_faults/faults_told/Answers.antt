@@ -9,8 +9,8 @@ use Rattle.track_check.specs.declared.fault.TheConstants.{FAULTS_MAX}
 use Rattle.track_check.proofs.Listed.{with_shape, with_pairs, none_taken, none_if, some_if}
 use Rattle.track_check.proofs.list_faults.faults_told.Goals as goal
 
-pub meeting_told-requires : goal.meeting_told-requires
-meeting_told-requires c =
+pub meeting_faults-requires : goal.meeting_faults-requires
+meeting_faults-requires c =
     let lists = c.args.lists.now in
     let found = c.in_ok-found.found.items in
     let all = shape_faults c.args.scale (length lists.points) lists.faces in
@@ -22,9 +22,9 @@ returns-then-is_empty c =
     let lists = c.args.lists.now in
     let found = c.in_ok-found.found.items in
     let none : found ≡ [] = none_if found c.in_ok-found.found.len c.in_ok-found.found.ok.0 (sym c.is_empty.ensures ∙ c.if-is_empty.true) in
-    IfOk-weaker c.meeting_told.result (λ faults. faults.items ≡ map pair_as_fault (take FAULTS_MAX (meeting_pairs (mesh_under c.args.scale lists.points lists.faces)))) (λ faults. faults.items ≡ faults_told c.args.scale (lists_view lists))
+    IfOk-weaker c.meeting_faults.result (λ faults. faults.items ≡ map pair_as_fault (take FAULTS_MAX (meeting_pairs (mesh_under c.args.scale lists.points lists.faces)))) (λ faults. faults.items ≡ faults_told c.args.scale (lists_view lists))
     (λ faults e. e ∙ with_pairs c.args.scale lists FAULTS_MAX found (omega arith) c.in_ok-found.ensures.found none)
-    c.meeting_told.ensures
+    c.meeting_faults.ensures
 
 pub returns : goal.returns
 returns c =
