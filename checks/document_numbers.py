@@ -61,7 +61,7 @@ def constants():
     known.update(number_most=known["u32::MAX"], seen_most=known["u64::MAX"])
     known["calls"] = len(re.findall(r"(?m)^(?:uint32_t|void) topo_\w+\(", text_of("library/topo.h")))
     known["volume_bits"] = (known["FACES_MAX"] * known["DETERMINANT_MAX"]).bit_length()
-    whole = [top for top, _, files in os.walk(os.path.join(ROOT, "crates")) if "Proof.antt" in files and "/proofs/" in top]
+    whole = [top for top, _, files in os.walk(os.path.join(ROOT, "crates")) if "Proof.antt" in files and "/proofs/" in top and "/out/" not in top]
     known["proofs_for_c"] = sum("/topo_library/" in it for it in whole)
     known["other_proofs"] = len(whole) - known["proofs_for_c"]
     known["metres"] = known["BOX"] // 10**3
