@@ -54,7 +54,7 @@ HoldsTheSame topo = held_after topo ≡ held_before topo
 abbrev pub IsLeft : {X : Type 0} → InOut X → Type 0
 IsLeft it = value_after it ≡ value_before it
 
--- 3, with the handle and this as they were
+-- a number is beyond its limit: 3, and what the handle holds and this are as they were
 abbrev pub HandleIsBeyond : {X : Type 0} → InOut Topo → InOut X → ℕ → Type 0
 HandleIsBeyond topo it code = (code ≡ 3) × HoldsTheSame topo × IsLeft it
 
@@ -66,7 +66,8 @@ HandleHasDone what topo fault code =
     HolderHasDone what (held_before topo) (held_after topo)
     (value_before fault) (value_after fault) code
 
--- what the call tells beside its code: at 0 what is told of the tracker before it
+-- what the call tells beside its code: at 0 what is told of the tracker before it, and else it is as
+-- it was
 abbrev pub HandleHasTold : {X : Type 0} → (Tracker → X) → InOut Topo → InOut X → ℕ → Type 0
 HandleHasTold tell topo answer code =
     HolderHasTold tell (held_before topo) (value_before answer) (value_after answer) code
@@ -139,24 +140,25 @@ HandleRefusesTable cells bands topo edits fault code =
     (why : TableFault) → table_fault cells bands ≡ Some why →
     (code ≡ 2) × HoldsTheSame topo × IsLeft edits × (value_after fault ≡ table_place why)
 
--- all settings are set, where each is within its limit
+-- where each setting is within its limit, the code of a call that sets them all
 abbrev pub HandleHasSet : ℕ → ℕ → ℕ → ℕ → InOut Topo → ℕ → Type 0
 HandleHasSet depth passes zones halvings topo code =
     AreSettings depth passes zones halvings →
     HolderHasSet (settings_at depth passes zones halvings) (held_before topo) (held_after topo) code
 
--- vertices and faces are numbered anew
+-- the code of a call that numbers vertices and faces anew
 abbrev pub HandleHasRenumbered : InOut Topo → ℕ → Type 0
 HandleHasRenumbered topo code = HolderHasRenumbered (held_before topo) (held_after topo) code
 
 -- ---- making
 
--- a tracker of points and faces is made, and put into the handle
+-- the code of a call that makes a tracker of points and faces and puts it into the handle, and what
+-- it tells of a fault
 abbrev pub HasMade : List GivenPoint → List GivenFace → InOut Topo → InOut TopoFault → ℕ → Type 0
 HasMade points faces out fault code =
     HolderHasMade points faces (held_after out) (value_before fault) (value_after fault) code
 
--- a tracker of vertices and faces with their ids, of which vertices are solid, and of the next ids
+-- the same of vertices and faces with their ids, of which vertices are solid, and of the next ids
 abbrev pub HasMadeNumbered : List NamedPoint → List NamedFace → List ℕ → ℕ → ℕ → InOut Topo →
     InOut TopoFault → ℕ → Type 0
 HasMadeNumbered points faces solids next_vertex next_face out fault code =
@@ -165,28 +167,29 @@ HasMadeNumbered points faces solids next_vertex next_face out fault code =
 
 -- ---- reading
 
--- these rows of the tracker are put into a buffer, and their number is told
+-- the code of a call that puts these rows of the tracker into a buffer and tells their number
 abbrev pub HandleHasPut : {X : Type 0} → (Tracker → List X) → InOut Topo → InOut (List X) → InOut ℕ →
     ℕ → Type 0
 HandleHasPut rows topo into size code =
     HolderHasPut rows (held_before topo) (held_after topo)
     (value_before into) (value_after into) (value_before size) (value_after size) code
 
--- the text of the lines is put into a buffer and taken, and its number of bytes is told
+-- the code of a call that puts the text of the lines into a buffer, tells its number of bytes, and
+-- takes the lines
 abbrev pub HandleHasTakenLog : InOut Topo → InOut (List ℕ) → InOut ℕ → ℕ → Type 0
 HandleHasTakenLog topo into size code =
     HolderHasTakenLog (held_before topo) (held_after topo)
     (value_before into) (value_after into) (value_before size) (value_after size) code
 
--- the lines are forgotten
+-- the code of a call that forgets the lines
 abbrev pub HandleHasForgotten : InOut Topo → ℕ → Type 0
 HandleHasForgotten topo code = HolderHasForgotten (held_before topo) (held_after topo) code
 
--- lines are kept from here on, at 1, or none, at 0
+-- the code of a call that keeps lines from here on, at 1, or none, at 0; 3 where it is neither
 abbrev pub HandleHasKept : ℕ → InOut Topo → ℕ → Type 0
 HandleHasKept lines topo code = HolderHasKept lines (held_before topo) (held_after topo) code
 
--- it is told how much there is of the tracker
+-- the code of a call that tells how much there is of the tracker
 abbrev pub HandleHasCounted : InOut Topo → InOut TopoCounted → ℕ → Type 0
 HandleHasCounted topo counts code =
     HolderHasCounted (held_before topo) (held_after topo)

@@ -83,7 +83,8 @@ EngineFits mesh kept around engine outside may_size result =
     FitTells may_size (state_before mesh kept engine) (state_after mesh kept engine)
     (text_before around outside) (text_after around outside) result
 
--- it writes the lines of the effect that something has in the state before
+-- the lines of the effect that something has in the state before are written, or it is refused, or it
+-- stops in its lines
 abbrev pub EngineWrites : {S O : Type 0} → (S → Mesh) → (S → List Mesh) → (O → Around) →
     InOut (Engine S) → InOut O → (State → Effect) → Result (Option UseWhy) Stop → Type 0
 EngineWrites mesh kept around engine outside effect result =
@@ -96,7 +97,7 @@ abbrev pub EngineEdits : {S O : Type 0} → (S → Mesh) → (S → List Mesh) �
 EngineEdits mesh kept around engine outside asked result =
     EngineWrites mesh kept around engine outside (edits_effect asked) result
 
--- it takes the innermost open group back
+-- the same of the end of the innermost open group, which is taken back
 abbrev pub EngineUndoes : {S O : Type 0} → (S → Mesh) → (S → List Mesh) → (O → Around) →
     InOut (Engine S) → InOut O → Result (Option UseWhy) Stop → Type 0
 EngineUndoes mesh kept around engine outside result =
@@ -177,8 +178,8 @@ abbrev pub meshes_left : {S : Type 0} → Directive → (S → List Mesh) → En
 meshes_left what kept engine = left_by what engine.run.groups (kept engine.mesh)
 
 -- those that are left where the innermost open group is taken back, whether it has failed or not
-abbrev pub meshes_undone : {S : Type 0} → (S → List Mesh) → Engine S → List Mesh
-meshes_undone kept engine = left_by Close (failed_if true engine.run.groups) (kept engine.mesh)
+abbrev pub meshes_left_by_undo : {S : Type 0} → (S → List Mesh) → Engine S → List Mesh
+meshes_left_by_undo kept engine = left_by Close (failed_if true engine.run.groups) (kept engine.mesh)
 
 -- the innermost of these groups is taken out of them; none, where none is open
 abbrev pub TakesInnermost : InOut (List OpenGroup) → Option OpenGroup → Type 0

@@ -2,7 +2,7 @@
 ghost use Rattle.std.specs.Prelude.{◌≡◌, IfOk, OnOk};
 ghost use Rattle.mesh_base.specs.Kept.{BeginsWith};
 ghost use Rattle.outside_io.specs.Outside.{LeavesDesk};
-ghost use Rattle.track_engine.specs.Calls.{AddsAnswers, CountsEdits, EngineEdits, EngineUndoes, meshes_undone};
+ghost use Rattle.track_engine.specs.Calls.{AddsAnswers, CountsEdits, EngineEdits, EngineUndoes, meshes_left_by_undo};
 ghost use Rattle.track_engine.specs.Engines.{state_in};
 ghost use Rattle.track_engine.specs.Invariant.{MarksHold};
 ghost use Rattle.track_engine.specs.Ready.{IsReady};
@@ -63,7 +63,7 @@ impl<S: Surface> Engine<S> {
         ensures taken { IfOk result (λ refused. refused ≡ None) }
         ensures ready { IfOk result (λ _. IsReady S.beyond S.mesh S.kept self.new) }
         ensures marks { MarksHold S.beyond (S.kept self.new.mesh) self.new.run.groups }
-        ensures begins { BeginsWith (S.kept self.new.mesh) (meshes_undone S.kept self.old) }
+        ensures begins { BeginsWith (S.kept self.new.mesh) (meshes_left_by_undo S.kept self.old) }
         ensures nothing_stored { LeavesDesk O.around outside result }
     {
         self.run.groups.fail_if(true);

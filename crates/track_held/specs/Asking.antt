@@ -10,8 +10,8 @@ use Rattle.step_text.specs.declared.Directive.TheVariants.{ShiftOne, ShiftAll, D
 use Rattle.track_held.specs.declared.given.NamedPoint.{NamedPoint}
 
 -- it is this value exactly where something holds, and else none
-abbrev pub IsSomeWhere : {A : Type 0} → Type 0 → A → Option A → Type 0
-IsSomeWhere holds value found = MatchOption found (¬ holds) (λ is. holds × (is ≡ value))
+abbrev pub IsExactlyWhere : {A : Type 0} → Type 0 → A → Option A → Type 0
+IsExactlyWhere holds value found = MatchOption found (¬ holds) (λ is. holds × (is ≡ value))
 
 -- the shift has these components
 pub record IsGiven (row : NamedPoint) (by : Shift) : Type 0 where

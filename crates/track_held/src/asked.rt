@@ -2,7 +2,7 @@
 ghost use Rattle.std.specs.Prelude.{MatchOption};
 ghost use Rattle.grid_base.specs.declared.TheConstants.{SHIFT_MAX};
 ghost use Rattle.grid_base.specs.Components.{FitWithin};
-ghost use Rattle.track_held.specs.Asking.{CanBeAsked, CanAllBeAsked, IsGiven, IsSomeWhere, shift_directive, shift_all_directive};
+ghost use Rattle.track_held.specs.Asking.{CanBeAsked, CanAllBeAsked, IsGiven, IsExactlyWhere, shift_directive, shift_all_directive};
 
 use crate::given::NamedPoint;
 use grid_base::{ID_MAX, Shift};
@@ -18,7 +18,7 @@ fn shift_of(row: &NamedPoint) -> Option<Shift>
 
 /// The directive that adds a shift to what is asked of a vertex; None where a component or the id is beyond its limit.
 pub fn shift_directive(row: &NamedPoint) -> Option<Directive>
-    ensures { IsSomeWhere (CanBeAsked row.now) (shift_directive row.now) result }
+    ensures { IsExactlyWhere (CanBeAsked row.now) (shift_directive row.now) result }
 {
     let v = row.id;
     let by = shift_of(row)?;
@@ -30,7 +30,7 @@ pub fn shift_directive(row: &NamedPoint) -> Option<Directive>
 
 /// The directive that adds a shift to what is asked of each vertex; None where a component is beyond its limit. The id says nothing.
 pub fn shift_all_directive(row: &NamedPoint) -> Option<Directive>
-    ensures { IsSomeWhere (CanAllBeAsked row.now) (shift_all_directive row.now) result }
+    ensures { IsExactlyWhere (CanAllBeAsked row.now) (shift_all_directive row.now) result }
 {
     let by = shift_of(row)?;
     Some(Directive::ShiftAll { by })

@@ -3,9 +3,9 @@ use Rattle.std.specs.Prelude.{◌≡◌, ℕ, List, Option, Result}
 use Rattle.track_log.specs.declared.refusal.LogRefusal.{LogRefusal}
 
 -- of what was given there are no two endings
-abbrev pub HasOneEnding : {Input : Type 0} →
+abbrev pub HasNoTwoEndings : {Input : Type 0} →
     (Result Input LogRefusal → Option LogRefusal → List ℕ → Type 0) → Type 0
-HasOneEnding {Input} Ends = (input : Result Input LogRefusal) (a b : Option LogRefusal)
+HasNoTwoEndings {Input} Ends = (input : Result Input LogRefusal) (a b : Option LogRefusal)
     (t u : List ℕ) → Ends input a t → Ends input b u → a ≡ b
 
 -- nor two texts

@@ -33,16 +33,16 @@ pub record IsOfValidMesh (decimals : ℕ) (file : List ℕ × List ℕ) : Type 0
   pub text : file.1 ≡ mesh_text decimals mesh
 
 -- a replay of what was given has no two endings
-abbrev pub HasOneEnding : Type 0
-HasOneEnding = (input : Result LogInput LogRefusal) (one other : Option LogRefusal) →
+abbrev pub HasNoTwoEndings : Type 0
+HasNoTwoEndings = (input : Result LogInput LogRefusal) (one other : Option LogRefusal) →
     EndsBy FitsTested input one → EndsBy FitsTested input other → one ≡ other
 
--- a replay of what was given has an ending
-abbrev pub HasAnEnding : Type 0
-HasAnEnding = (input : Result LogInput LogRefusal) →
+-- it is not so that a replay of what was given has no ending
+abbrev pub HasNotNoEnding : Type 0
+HasNotNoEnding = (input : Result LogInput LogRefusal) →
     ((ending : Option LogRefusal) → ¬ EndsBy FitsTested input ending) → ⊥
 
--- where no number is given, all files are stored that the lines of a log name
+-- where no number is given, all files are wanted that the lines of a log name
 abbrev pub WantsAllFiles : Type 0
 WantsAllFiles = (to : Target) (r : Replay) (lines : List LogLine) →
     wanted_of None to r lines ≡ files_of to r lines

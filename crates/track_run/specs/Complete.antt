@@ -68,7 +68,7 @@ LawfulJobsAreDone fields =
     → NoneFailed old new
     → (result ≡ Done) ⊎ (result ≡ NoMemory)
 
--- That of each job, whatever the stored fields and the sizing may answer.
+-- That holds for each of the stored fields and each sizing, by these closures.
 abbrev pub AllLawfulJobsAreDone : {F G : Type 0} → Shared F (ℕ × (Point × Unit {0})) Shift →
     Shared G (Point × Unit {0}) Band → Type 0
 AllLawfulJobsAreDone {F} {G} closures sizings =
