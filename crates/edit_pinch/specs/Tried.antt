@@ -14,7 +14,8 @@ pub record MayBeTried (m : Mesh) (v : ℕ) : Type 0 where
   pub may_move : is_solid m v ≡ false
   pub fits : is_over_limits (pinch_scaffold m v).mesh ≡ false
 
--- a pinch would pass a limit, which its fans after the first tell
+-- the answer is whether a pinch of a vertex of a closed mesh, which has these fans after its first,
+-- would pass a limit
 abbrev pub TellsOver : Mesh → List (List ℕ) → Bool → Type 0
 TellsOver m others answer = (v : ℕ) → IsClosed m → IsLiveVertex m v → others ≡ drop 1 (fans m v) →
     answer ≡ is_over_limits (pinch_scaffold m v).mesh

@@ -7,7 +7,8 @@ use Rattle.edit_check.specs.Agreeing.{AgreesWhereOld}
 use Rattle.edit_check.specs.Untouched.{IsClearWhereUntouched}
 use Rattle.edit_any.specs.Dispatch.{scaffold_of}
 
--- The scaffold of an edit agrees with the edited mesh but for new faces and the vertices that move.
+-- The scaffold of an edit agrees with the mesh before the edit, but for new faces and the vertices
+-- that move.
 abbrev pub ScaffoldsAgree : Type 0
 ScaffoldsAgree = (m : Mesh) (change : Change) →
     IfSome (scaffold_of m change) (λ s. AgreesWhereOld m s.mesh s.moves)

@@ -22,12 +22,13 @@ abbrev pub SplitFacesAreFresh : Mesh → Edge → Type 0
 SplitFacesAreFresh m s = (at : Point) →
     AreFresh (with_vertex (without_faces m (faces_beside s)) at) (split_faces s m.next_vertex)
 
--- A mesh of which an edge is split agrees with it but for new faces.
+-- A mesh of which an edge is split agrees with the mesh before, but for new faces.
 abbrev pub SplitMeshesAgree : Type 0
 SplitMeshesAgree = (m : Mesh) (s : Edge) (at : Point) (moves : List Move) →
     AgreesWhereOld m (split_mesh m s at) moves
 
--- the split of an edge of a closed mesh, whichever and wherever, would pass a limit
+-- the answer is whether the split of an edge of a closed mesh, whichever and wherever, would pass a
+-- limit
 abbrev pub TellsOver : Mesh → Bool → Type 0
 TellsOver m answer = (s : Edge) (at : Point) → IsClosed m → HasEdge m s →
     answer ≡ is_over_limits (split_mesh m s at)

@@ -42,7 +42,7 @@ state_of m kept at has_line is_spent = record {
   is_spent = is_spent;
 }
 
--- where it stands after a line
+-- the state in which a line that has others before it is taken
 abbrev pub state_now : Mesh → List Mesh → ReplayState → LogState
 state_now m kept at = state_of m kept at true false
 

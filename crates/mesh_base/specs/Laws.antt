@@ -41,16 +41,16 @@ MovesKeepNextFace = (m : Mesh) (moves : Shifts) → (with_moves m moves).next_fa
 abbrev pub MovesKeepLimits : Type 0
 MovesKeepLimits = (m : Mesh) (moves : Shifts) → (with_moves m moves).limits ≡ m.limits
 
--- the laws of a mesh hold
+-- the laws of a mesh hold after moves that name its vertices once
 abbrev pub MovesKeepSound : Type 0
 MovesKeepSound =
     (m : Mesh) (moves : Shifts) → IsSound m → NameOnce m moves → IsSound (with_moves m moves)
 
--- a closed mesh is closed
+-- a closed mesh is closed after the moves
 abbrev pub MovesKeepClosed : Type 0
 MovesKeepClosed = (m : Mesh) (moves : Shifts) → IsClosed m → IsClosed (with_moves m moves)
 
--- it has the same pairs
+-- a mesh has the same pairs after the moves
 abbrev pub MovesKeepPairs : Type 0
 MovesKeepPairs =
     (m : Mesh) (moves : Shifts) (p : Pair) → (IsPair (with_moves m moves) p ↔ IsPair m p)

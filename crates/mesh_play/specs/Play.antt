@@ -186,9 +186,9 @@ pub record IsStopped (m : Mesh) (calls : List Call) (left : Mesh) : Type 0 where
   pub next : made < length calls
   pub mesh : left ≡ mesh_after m (take made calls)
 
--- the calls are made of two surfaces, seen by their meshes, the one first: those of the one were
--- stopped, and none was made of the other; or the one has made all, and those of the other were
--- stopped
+-- the calls are made of two surfaces that have one mesh before, seen by their meshes, the one first:
+-- those of the one were stopped, and none was made of the other; or the one has made all, and those
+-- of the other were stopped
 abbrev pub IsEitherStopped : {X Y : Type 0} → (X → Mesh) → (Y → Mesh) → InOut X → InOut Y →
     List Call → Type 0
 IsEitherStopped of_one of_other one other calls =

@@ -67,7 +67,7 @@ pub record Puts (bytes : List ℕ) (old new : Around) (result : Result (Unit {0}
   pub fault : IfErr result (λ stop. stop ≡ SinkFault)
   pub counts : Counts old new result
 
--- whatever is written, the desk is left alone
+-- whatever is written, nothing is stored, no fault is the desk's, and the sink's are counted
 pub record StoresNothing {T : Type 0} (old new : Around) (result : Result T Stop) : Type 0 where
   pub files : new.world.holds.files ≡ old.world.holds.files
   pub desk : new.world.desk_faults ≡ old.world.desk_faults
@@ -93,7 +93,7 @@ InWorld around outside relation =
 abbrev pub files_before : {O : Type 0} → (O → Around) → InOut O → Option Files
 files_before around outside = (around (value_before outside)).world.holds.files
 
--- the call wrote these bytes
+-- the call wrote these bytes, all of them, at the end of what was written
 abbrev pub WritesAll : {O : Type 0} → (O → Around) → InOut O → List ℕ → Type 0
 WritesAll around outside bytes =
     written_of (around (value_after outside))
@@ -105,7 +105,7 @@ WritesPart around outside bytes =
     AppendsPart (written_of (around (value_before outside)))
     (written_of (around (value_after outside))) bytes
 
--- whatever the call wrote, it left the desk alone
+-- whatever the call wrote, it stored nothing, met no fault of the desk, and counted the sink's
 abbrev pub LeavesDesk : {O T : Type 0} → (O → Around) → InOut O → Result T Stop → Type 0
 LeavesDesk around outside result =
     StoresNothing (around (value_before outside)) (around (value_after outside)) result

@@ -40,8 +40,9 @@ module _ {S O : Type 0} (mesh : S → Mesh) (kept : S → List Mesh) (around : O
   abbrev pub PassTells : (Mesh → List LogLine) → Result PassCount Stop → Type 0
   PassTells lines result = PassResult (lines stage_before.mesh) stage_before stage_after result
 
-  -- The lines of a pass by a sizing were said and counted, or the first of them. The sizing may
-  -- answer what its closure may.
+  -- The lines of a pass by a sizing were said and counted, or the first of them; they lead to the
+  -- mesh that the call leaves, and each keeps a mesh sound, closed and clear. The sizing may answer
+  -- what its closure may.
   abbrev pub FitTells : {G : Type 0} → Shared G (Point × Unit {0}) Band → Turns G →
       Result PassCount Stop → Type 0
   FitTells closures turns result =
@@ -62,8 +63,9 @@ module _ {S K : Type 0} (mesh : S → Mesh) (written : K → Option (List ℕ)) 
       Said from (mesh (value_after surface)) (written (value_before sink))
       (written (value_after sink)) (lines from) result
 
-  -- The lines of a pass by a sizing were written to the sink, or the first of them, and lead to the
-  -- mesh that the call leaves. The sizing may answer what its closure may.
+  -- The lines of a pass by a sizing were written to the sink and counted, or the first of them; they
+  -- lead to the mesh that the call leaves, and each keeps a mesh sound, closed and clear. The sizing
+  -- may answer what its closure may.
   abbrev pub SinkHasFit : {G E : Type 0} → Shared G (Point × Unit {0}) Band → G → ℕ → Bool →
       Result PassCount E → Type 0
   SinkHasFit closures sizing depth grouped result =

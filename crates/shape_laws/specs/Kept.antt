@@ -38,7 +38,7 @@ abbrev pub ShapeStaysIf : Mesh → Change → Bool → Type 0
 ShapeStaysIf m change said =
     said ≡ true → IsClosed m → IsAnswered m change → HaveSameShape m (edited m change)
 
--- moves that name no vertex twice leave the shape as it was
+-- moves that name live vertices, none twice, leave the shape as it was
 abbrev pub ShapeStaysOnMoves : Type 0
 ShapeStaysOnMoves =
     (m : Mesh) (moves : Shifts) → NameOnce m moves → HaveSameShape m (with_moves m moves)

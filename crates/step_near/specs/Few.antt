@@ -19,7 +19,7 @@ is_shifted s =
 abbrev pub are_few : Shifts → Bool
 are_few asked = nat_le (length (filter is_shifted asked)) FEW_MAX
 
--- the answer is whether few vertices are asked to move, and all pairs pass
+-- the answer is whether few vertices are asked to move and all pairs pass: where many are, it is no
 abbrev pub TellsWhetherFewPass : Mesh → Shifts → ℕ → Bool → Type 0
 TellsWhetherFewPass m asked depth pass =
     pass ≡ (are_few asked && has_none (failing meets_exactly m asked depth))
