@@ -7,8 +7,7 @@ use Rattle.grid_decided.specs.Decided.{meets_exactly}
 use Rattle.mesh_base.specs.declared.ids.PairName.{PairName}
 use Rattle.mesh_base.specs.Mesh.{Mesh}
 use Rattle.mesh_base.specs.Pairs.{Pair}
-use Rattle.mesh_base.specs.Placements.{rest_positions, IsClearMesh}
-use Rattle.mesh_base.specs.Failing.{first_meeting}
+use Rattle.mesh_base.specs.Placements.{IsClearMesh}
 use Rattle.edit_base.specs.declared.Move.{Move}
 use Rattle.edit_base.specs.declared.Touch.{Touch}
 use Rattle.edit_base.specs.Scaffold.{Scaffold, is_as_required, first_failing, motion_by, IsClearBut}
@@ -29,9 +28,6 @@ IsFirstFailing m moves touch together depth found =
     found ≡ first_failing meets_exactly (scaffold_by m moves touch together) depth
 
 -- where there is none, no pair meets at any fraction, but where two may touch
-abbrev pub IsClearIfNone : Mesh → List Move → Touch → Option PairName → Type 0
-IsClearIfNone m moves touch found = IsNone found → IsClearBut touch m (motion_by m moves)
+abbrev pub IsClearButIfNone : Mesh → List Move → Touch → Option PairName → Type 0
+IsClearButIfNone m moves touch found = IsNone found → IsClearBut touch m (motion_by m moves)
 
--- it is the first pair of the mesh that meets where its vertices stand
-abbrev pub IsFirstMeeting : Mesh → Option PairName → Type 0
-IsFirstMeeting m found = found ≡ first_meeting meets_exactly m (rest_positions m)

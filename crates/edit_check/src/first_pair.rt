@@ -6,7 +6,8 @@ ghost use Rattle.mesh_base.specs.Placements.{IsClearMesh};
 ghost use Rattle.edit_base.specs.Scaffold.{first_failing};
 ghost use Rattle.edit_check.specs.Untouched.{IsClearWhereUntouched, MoveFits};
 ghost use Rattle.edit_check.specs.Reach.{ReachesTouched};
-ghost use Rattle.edit_check.specs.Checking.{scaffold_by, IsFirstFailing, IsClearIfNone, IsFirstMeeting};
+ghost use Rattle.pair_scan.specs.Answers.{IsFirstMeeting};
+ghost use Rattle.edit_check.specs.Checking.{scaffold_by, IsFirstFailing, IsClearButIfNone};
 
 use crate::face_pairs::none_is_seen_to_fail;
 use crate::nearby::faces_near;
@@ -79,7 +80,7 @@ pub fn check<S: Surface>(
     ensures first { IfOk result
         (IsFirstFailing (S.mesh mesh.now) moves.now touch together.now depth) }
     // None: the motion is clear.
-    ensures clear { IfOk result (IsClearIfNone (S.mesh mesh.now) moves.now touch) }
+    ensures clear { IfOk result (IsClearButIfNone (S.mesh mesh.now) moves.now touch) }
 {
     let terms = Terms {
         touch,
