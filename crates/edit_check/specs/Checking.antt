@@ -7,7 +7,6 @@ use Rattle.grid_decided.specs.Decided.{meets_exactly}
 use Rattle.mesh_base.specs.declared.ids.PairName.{PairName}
 use Rattle.mesh_base.specs.Mesh.{Mesh}
 use Rattle.mesh_base.specs.Pairs.{Pair}
-use Rattle.mesh_base.specs.Placements.{IsClearMesh}
 use Rattle.edit_base.specs.declared.Move.{Move}
 use Rattle.edit_base.specs.declared.Touch.{Touch}
 use Rattle.edit_base.specs.Scaffold.{Scaffold, is_as_required, first_failing, motion_by, IsClearBut}
@@ -30,4 +29,3 @@ IsFirstFailing m moves touch together depth found =
 -- where there is none, no pair meets at any fraction, but where two may touch
 abbrev pub IsClearButIfNone : Mesh → List Move → Touch → Option PairName → Type 0
 IsClearButIfNone m moves touch found = IsNone found → IsClearBut touch m (motion_by m moves)
-
