@@ -2,7 +2,7 @@
 use Rattle.std.proofs.Common.{ℕ, ◌+◌, ◌≤◌, arith}
 use Rattle.grid_base.specs.declared.TheConstants.{ID_MAX}
 use Rattle.mesh_base.specs.Mesh.{Mesh, IsSound}
-use Rattle.mesh_plain.specs.Numbered.{numbered}
+use Rattle.mesh_shape.specs.Numbered.{numbered}
 use Rattle.half_mesh.specs.States.{State, AreApart, with_mesh}
 
 pub sound-next : (m : Mesh) (v f : ℕ) → IsSound m → m.next_vertex ≤ v → m.next_face ≤ f → v ≤ (ID_MAX + 1) → f ≤ (ID_MAX + 1) → IsSound (numbered m v f)

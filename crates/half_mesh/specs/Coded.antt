@@ -12,7 +12,7 @@ use Rattle.grid_base.specs.declared.Point.{Point}
 use Rattle.mesh_base.specs.declared.ids.Corners.{Corners}
 use Rattle.mesh_base.specs.declared.limits.Limits.{Limits}
 use Rattle.mesh_base.specs.Mesh.{Mesh, IdSet}
-use Rattle.mesh_plain.specs.Coded.{mesh_code}
+use Rattle.mesh_shape.specs.Coded.{mesh_code}
 
 -- half-edges at a vertex by codes, so that two with one code are equal
 abbrev pub spoke_code : Coded Spoke

@@ -7,7 +7,7 @@ use Rattle.mesh_base.specs.declared.ids.Corners.{Corners}
 use Rattle.mesh_base.specs.Mesh.{Mesh, IdSet, IsLiveVertex, IsLiveFace, HasCorners, AreLive, AreDifferent, equal_up_to_rotation}
 use Rattle.mesh_base.specs.Sides.{faces_at, has_corner}
 use Rattle.mesh_base.specs.Changes.{without_face, without_vertex, with_point}
-use Rattle.mesh_plain.specs.Numbered.{numbered}
+use Rattle.mesh_shape.specs.Numbered.{numbered}
 
 -- the points of the buried vertices, the corners of the buried faces, and
 -- the buried vertices that are solid

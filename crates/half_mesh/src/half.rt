@@ -22,9 +22,9 @@ pub struct HalfMesh {
 }
 
 impl HalfMesh {
-    ghost use Rattle.mesh_plain.specs.Shape.{HaveGoodShape};
+    ghost use Rattle.mesh_shape.specs.Shape.{HaveGoodShape};
     ghost use Rattle.mesh_base.specs.Given.{listed_mesh};
-    ghost use Rattle.mesh_plain.specs.Numbered.{MayBeNext, numbered_mesh};
+    ghost use Rattle.mesh_shape.specs.Numbered.{MayBeNext, numbered_mesh};
     ghost use Rattle.mesh_base.specs.Mesh.{IsLiveFace};
     ghost use Rattle.half_mesh.specs.Across.{across, LeadsBack};
     ghost use Rattle.half_mesh.specs.Half.{mesh_in, kept_in, state_in};

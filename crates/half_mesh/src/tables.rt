@@ -7,8 +7,8 @@ ghost use Rattle.mesh_base.specs.Mesh.{IsSound, IsLiveVertex, IsLiveFace, AreLiv
 ghost use Rattle.mesh_base.specs.Changes.{corner_list, with_vertex, with_face, without_face, without_vertex, with_point, with_solid};
 ghost use Rattle.mesh_base.specs.Sides.{above, faces_at, faces_running, runs};
 ghost use Rattle.mesh_base.specs.Given.{mesh_under, listed_mesh};
-ghost use Rattle.mesh_plain.specs.Numbered.{numbered};
-ghost use Rattle.mesh_plain.specs.Shape.{HaveGoodShape};
+ghost use Rattle.mesh_shape.specs.Numbered.{numbered};
+ghost use Rattle.mesh_shape.specs.Shape.{HaveGoodShape};
 ghost use Rattle.half_mesh.specs.Fans.{spokes_at, IsNewest};
 ghost use Rattle.half_mesh.specs.States.{AreApart, none_buried, with_mesh};
 ghost use Rattle.half_mesh.specs.Across.{corner_at, corner_after, side_from, below, across, across_side};

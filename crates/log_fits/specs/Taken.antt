@@ -1,7 +1,7 @@
 -- A log that was written, taken by the commands that read one.
 use Rattle.std.specs.Prelude.{◌≡◌, ◌⊎◌, ℕ, List, length, None, Ok}
 use Rattle.mesh_base.specs.declared.Scale.{Scale}
-use Rattle.mesh_plain.specs.Shape.{shape_fault}
+use Rattle.mesh_shape.specs.Shape.{shape_fault}
 use Rattle.obj_text.specs.Obj.{Lists, lists_of}
 use Rattle.log_text.specs.declared.LogLine.{LogLine}
 use Rattle.log_text.specs.Lines.{text_of_lines}

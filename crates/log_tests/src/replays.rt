@@ -13,7 +13,7 @@ use log_run::LogRun;
 use log_text::{Log, LogLine};
 use mesh_base::Scale;
 use mesh_journal::JournalMesh;
-use mesh_plain::shape;
+use mesh_shape::shape;
 use pair_scan::first_meeting;
 use std::alloc::Global;
 use std::process::Abort;

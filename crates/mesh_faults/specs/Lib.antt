@@ -1,5 +1,1 @@
-pub mod ShapeFaults
-pub mod Listing
-pub mod Doubled
-pub mod Balance
 pub mod MeetingPairs

@@ -1,11 +1,6 @@
-//! All that is wrong with a mesh: each fault of the shape of its lists, and each edge and face that meet and share no vertex.
+//! The pairs of an edge and a face of a mesh that meet and share no vertex, where its vertices stand.
 #![tactic(auto)]
 
-mod balance;
-mod doubled;
-mod fault_list;
-mod faults;
 mod intersections;
 
-pub use faults::shape_faults;
 pub use intersections::meeting_pairs;

@@ -78,8 +78,8 @@ impl Undoable for HalfMesh {
 
 impl Journal<HalfMesh> {
     ghost use Rattle.mesh_base.specs.Given.{listed_mesh};
-    ghost use Rattle.mesh_plain.specs.Shape.{HaveGoodShape};
-    ghost use Rattle.mesh_plain.specs.Numbered.{MayBeNext, numbered_mesh};
+    ghost use Rattle.mesh_shape.specs.Shape.{HaveGoodShape};
+    ghost use Rattle.mesh_shape.specs.Numbered.{MayBeNext, numbered_mesh};
     ghost use Rattle.mesh_journal.specs.Journal.{mesh_in, kept_in};
 
     /// The mesh that lists of good shape give, with an empty journal.

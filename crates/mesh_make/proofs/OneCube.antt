@@ -14,9 +14,9 @@ use Rattle.mesh_base.specs.Changes.{corners_of, corner_list}
 use Rattle.mesh_base.specs.declared.limits.Scale.TheVariants.{Standard}
 use Rattle.mesh_base.specs.Given.{Faces, mesh_of}
 use Rattle.mesh_base.proofs.Tests.{both_ways}
-use Rattle.mesh_plain.specs.Shape.{runs_in, shape_fault}
-use Rattle.mesh_plain.proofs.Lists.{numbered, sound-mesh_under}
-use Rattle.mesh_plain.proofs.Faults.{runs_given, closed-mesh_under}
+use Rattle.mesh_shape.specs.Shape.{runs_in, shape_fault}
+use Rattle.mesh_shape.proofs.Lists.{numbered, sound-mesh_under}
+use Rattle.mesh_shape.proofs.Faults.{runs_given, closed-mesh_under}
 use Rattle.mesh_make.specs.Cubes.{squares, cube_faces}
 
 abbrev pub triangle : ℕ → ℕ → ℕ → Corners

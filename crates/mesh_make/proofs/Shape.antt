@@ -18,9 +18,9 @@ use Rattle.mesh_base.specs.Sides.{follows, IsClosed}
 use Rattle.mesh_base.specs.Changes.{corners_of, corner_list}
 use Rattle.mesh_base.proofs.Finite.{none_in_empty}
 use Rattle.mesh_base.proofs.Tests.{and_first, or_either, both_ways}
-use Rattle.mesh_plain.specs.Shape.{runs_in, shape_fault, is_vertex}
-use Rattle.mesh_plain.proofs.Lists.{numbered, of_live, get_map, is_live, few_vertices, few_faces}
-use Rattle.mesh_plain.proofs.Faults.{runs_given, no_fault}
+use Rattle.mesh_shape.specs.Shape.{runs_in, shape_fault, is_vertex}
+use Rattle.mesh_shape.proofs.Lists.{numbered, of_live, get_map, is_live, few_vertices, few_faces}
+use Rattle.mesh_shape.proofs.Faults.{runs_given, no_fault}
 use Rattle.step_text.specs.Ranges.{IsFrom}
 use Rattle.mesh_make.specs.Cubes.{IsRow, corner_offsets, squares, cube_points, cube_faces, cubes_lists, cubes_mesh}
 use Rattle.mesh_make.proofs.Growing.{cubes-few}

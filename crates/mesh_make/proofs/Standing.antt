@@ -12,7 +12,7 @@ use Rattle.grid_base.specs.Triples.{Triple, IsWithin, plus}
 use Rattle.grid_base.specs.Points.{point_at}
 use Rattle.grid_base.proofs.PointLaws.{position_of-point_at}
 use Rattle.mesh_base.specs.Placements.{origin, position_or_origin, rest_positions}
-use Rattle.mesh_plain.proofs.Lists.{numbered}
+use Rattle.mesh_shape.proofs.Lists.{numbered}
 use Rattle.mesh_make.specs.Cubes.{IsRow, at, least_corner, corner_offsets, cube_points, cubes_lists, cubes_mesh}
 use Rattle.mesh_make.proofs.Pieces.{of_piece}
 use Rattle.mesh_make.proofs.OneCube.{IsOfCube}

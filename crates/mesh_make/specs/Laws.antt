@@ -2,7 +2,7 @@
 use Rattle.std.specs.Prelude.{ℕ, ◌≡◌, ◌*◌, ◌↔◌, length, None}
 use Rattle.mesh_base.specs.Mesh.{IsLiveVertex}
 use Rattle.mesh_base.specs.declared.limits.Scale.TheVariants.{Standard}
-use Rattle.mesh_plain.specs.Shape.{shape_fault}
+use Rattle.mesh_shape.specs.Shape.{shape_fault}
 use Rattle.obj_text.specs.Obj.{Lists}
 use Rattle.step_text.specs.Ranges.{IsFrom}
 use Rattle.grid_base.specs.Points.{displacement_of}

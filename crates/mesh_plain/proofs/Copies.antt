@@ -16,7 +16,7 @@ use Rattle.mesh_base.specs.Given.{empty_mesh}
 use Rattle.mesh_base.specs.Limits.{under}
 use Rattle.mesh_base.specs.Placements.{point_of, position_or_origin}
 use Rattle.mesh_plain.specs.Copying.{with_vertex_of, with_face_of, with_vertices_of, with_faces_of}
-use Rattle.mesh_plain.specs.Numbered.{numbered}
+use Rattle.mesh_shape.specs.Numbered.{numbered}
 
 -- whether the number is in the list
 abbrev has : List ℕ → ℕ → Bool

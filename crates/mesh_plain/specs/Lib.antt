@@ -1,10 +1,3 @@
-pub mod Shape
-pub mod Turned
-pub mod Parts
-pub mod Coded
-pub mod Balance
 pub mod Plain
-pub mod Laws
-pub mod Numbered
 pub mod FieldNames
 pub mod Copying

@@ -1,17 +1,11 @@
-//! A mesh of triangles in ordered maps, and whether lists of points and faces are of good shape. Passes on what of mesh_base
-//! its user names.
+//! A mesh of triangles in ordered maps, and the names of fields. Passes on what of mesh_base its user names.
 #![tactic(auto)]
 
-mod balance;
-mod doubled;
 mod field_name;
-mod good_shape;
-pub mod laws;
 mod plain;
 mod tables;
 
 pub use field_name::FieldName;
-pub use good_shape::shape;
 pub use mesh_base::{
     AddFault, Corners, Edges, FaceId, FaceIds, FileWord, How, Ids, Mark, MeshLists, PairName,
     Points, ShapeFault, ShapeRefusal, ShiftOf, Shifts, Surface, Triangles, UseWhy, VertexId,

@@ -18,9 +18,9 @@ pub struct PlainMesh {
 }
 
 impl PlainMesh {
-    ghost use Rattle.mesh_plain.specs.Shape.{HaveGoodShape};
+    ghost use Rattle.mesh_shape.specs.Shape.{HaveGoodShape};
     ghost use Rattle.mesh_base.specs.Given.{listed_mesh};
-    ghost use Rattle.mesh_plain.specs.Numbered.{MayBeNext, numbered_mesh};
+    ghost use Rattle.mesh_shape.specs.Numbered.{MayBeNext, numbered_mesh};
     ghost use Rattle.mesh_plain.specs.Plain.{mesh_in, kept_in};
     ghost use Rattle.std.specs.Prelude.{[], IfOk, length};
 

@@ -2,7 +2,7 @@
 ghost use Rattle.grid_base.specs.declared.TheConstants.{VERTICES_MAX, FACES_MAX};
 ghost use Rattle.mesh_base.specs.Given.{listed_mesh, empty_mesh};
 ghost use Rattle.mesh_base.specs.Limits.{under};
-ghost use Rattle.mesh_plain.specs.Numbered.{numbered};
+ghost use Rattle.mesh_shape.specs.Numbered.{numbered};
 ghost use Rattle.std.specs.Prelude.{◌≤◌, ◌≡◌, ◌<◌, ◌+◌, ◌^◌, IfOk, OnOk, OnErr, IsNone, slice_get, length, []};
 ghost use Rattle.std.specs.Option.{option_map};
 ghost use Rattle.std.specs.FinMap as map;
@@ -37,7 +37,7 @@ impl Model for Tables {
 
     ghost Value = { Mesh };
 
-    ghost use Rattle.mesh_plain.specs.Coded.{mesh_code};
+    ghost use Rattle.mesh_shape.specs.Coded.{mesh_code};
     ghost use Rattle.grid_base.specs.contracts.Point as point;
     ghost use Rattle.mesh_base.specs.contracts.ids.Corners as corners;
     ghost use Rattle.mesh_base.specs.contracts.limits.Limits as allowed;

@@ -1,7 +1,7 @@
 //! The same calls of one mesh, kept in three ways.
 ghost use Rattle.std.specs.Prelude.{◌≡◌, IfOk};
 ghost use Rattle.mesh_base.specs.Given.{listed_mesh};
-ghost use Rattle.mesh_plain.specs.Shape.{HaveGoodShape};
+ghost use Rattle.mesh_shape.specs.Shape.{HaveGoodShape};
 ghost use Rattle.mesh_play.specs.Play.{start_of, answers_in, AreLawful};
 
 use crate::call_sequence::play;

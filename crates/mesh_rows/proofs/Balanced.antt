@@ -12,7 +12,7 @@ use Rattle.mesh_base.specs.Mesh.{Mesh}
 use Rattle.mesh_base.specs.Sides.{follows, runs, IsClosed}
 use Rattle.mesh_base.proofs.Listed.{running_face}
 use Rattle.mesh_base.proofs.Tests.{and_first, and_second, or_either}
-use Rattle.mesh_plain.proofs.Lists.{none_of}
+use Rattle.mesh_shape.proofs.Lists.{none_of}
 use Rattle.mesh_rows.specs.declared.rows.FaceRow.{FaceRow}
 use Rattle.mesh_rows.specs.declared.rows.MeshRows.{MeshRows}
 use Rattle.mesh_rows.specs.Rows.{face_entry, mesh_of_rows}

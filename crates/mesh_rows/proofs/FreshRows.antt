@@ -7,9 +7,9 @@ use Rattle.mesh_base.specs.declared.ids.Corners.{Corners}
 use Rattle.mesh_base.specs.Mesh.{Mesh, AreLive, AreDifferent, HasCorners, equal_up_to_rotation}
 use Rattle.mesh_base.specs.Sides.{faces_running, follows}
 use Rattle.mesh_base.specs.Changes.{IsFresh}
-use Rattle.mesh_plain.specs.Shape.{repeats}
-use Rattle.mesh_plain.specs.Numbered.{numbered}
-use Rattle.mesh_plain.proofs.Lists.{none_of, none_mapped, not_tested, first_false}
+use Rattle.mesh_shape.specs.Shape.{repeats}
+use Rattle.mesh_shape.specs.Numbered.{numbered}
+use Rattle.mesh_shape.proofs.Lists.{none_of, none_mapped, not_tested, first_false}
 use Rattle.half_mesh.specs.Across.{below}
 use Rattle.half_mesh.proofs.AcrossLaws.{running-place}
 use Rattle.mesh_rows.specs.declared.rows.FaceRow.{FaceRow}

@@ -4,8 +4,8 @@ use Rattle.std.specs.Option.{option_or}
 use Rattle.mesh_base.specs.Mesh.{Mesh}
 use Rattle.mesh_base.specs.Changes.{with_solid}
 use Rattle.mesh_base.specs.declared.limits.Scale.{Scale}
-use Rattle.mesh_plain.specs.Numbered.{numbered}
-use Rattle.mesh_plain.proofs.Lists.{none_of}
+use Rattle.mesh_shape.specs.Numbered.{numbered}
+use Rattle.mesh_shape.proofs.Lists.{none_of}
 use Rattle.mesh_rows.specs.declared.rows.VertexRow.{VertexRow}
 use Rattle.mesh_rows.specs.declared.rows.FaceRow.{FaceRow}
 use Rattle.mesh_rows.specs.declared.rows.MeshRows.{MeshRows}

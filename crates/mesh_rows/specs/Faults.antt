@@ -10,7 +10,7 @@ use Rattle.mesh_base.specs.Sides.{faces_running, runs}
 use Rattle.mesh_base.specs.Changes.{with_solid}
 use Rattle.mesh_base.specs.declared.limits.Scale.{Scale}
 use Rattle.mesh_base.specs.Limits.{limits_of}
-use Rattle.mesh_plain.specs.Shape.{repeats}
+use Rattle.mesh_shape.specs.Shape.{repeats}
 use Rattle.mesh_rows.specs.declared.rows.VertexRow.{VertexRow}
 use Rattle.mesh_rows.specs.declared.rows.FaceRow.{FaceRow}
 use Rattle.mesh_rows.specs.declared.rows.MeshRows.{MeshRows}

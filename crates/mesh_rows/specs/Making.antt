@@ -5,7 +5,7 @@ use Rattle.mesh_base.specs.Changes.{with_vertex, with_face, with_solid}
 use Rattle.mesh_base.specs.declared.limits.Scale.{Scale}
 use Rattle.mesh_base.specs.Limits.{limits_of, under}
 use Rattle.mesh_base.specs.Given.{empty_mesh}
-use Rattle.mesh_plain.specs.Numbered.{numbered}
+use Rattle.mesh_shape.specs.Numbered.{numbered}
 use Rattle.mesh_rows.specs.declared.rows.VertexRow.{VertexRow}
 use Rattle.mesh_rows.specs.declared.rows.FaceRow.{FaceRow}
 use Rattle.mesh_rows.specs.declared.rows.MeshRows.{MeshRows}

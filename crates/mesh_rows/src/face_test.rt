@@ -2,7 +2,7 @@
 ghost use Rattle.std.specs.Prelude.{◌≡◌, slice_get};
 ghost use Rattle.mesh_base.specs.Mesh.{equal_up_to_rotation};
 ghost use Rattle.mesh_base.specs.Sides.{faces_running};
-ghost use Rattle.mesh_plain.specs.Shape.{repeats};
+ghost use Rattle.mesh_shape.specs.Shape.{repeats};
 ghost use Rattle.mesh_rows.specs.Search.{pick};
 ghost use Rattle.mesh_rows.specs.Faults.{no_corner, has_corners_at, equal_face, corners_fault, face_fault};
 

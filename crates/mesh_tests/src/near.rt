@@ -4,7 +4,7 @@ use crate::meshes::tetrahedron;
 use grid_base::{Extent, NoMemory, Point};
 use mesh_base::{FaceId, Scale, Surface};
 use mesh_journal::JournalMesh;
-use mesh_plain::shape;
+use mesh_shape::shape;
 use std::alloc::Global;
 use std::process::Abort;
 use std::test::Fail;

@@ -3,7 +3,7 @@ use crate::meshes::{SIDES, TETRAHEDRON, lists_of};
 use crate::same::assert_same;
 use grid_base::{NoMemory, Point};
 use mesh_base::{MeshLists, Scale, ShapeFault, ShapeRefusal};
-use mesh_plain::shape;
+use mesh_shape::shape;
 use std::alloc::Global;
 use std::test::Fail;
 

@@ -2,7 +2,7 @@
 ghost use Rattle.std.specs.Prelude.{◌≡◌, IfOk, None, length, true};
 ghost use Rattle.mesh_base.specs.Changes.{IsFresh};
 ghost use Rattle.mesh_base.specs.declared.limits.Scale.TheVariants.{Standard};
-ghost use Rattle.mesh_plain.specs.Shape.{shape_fault};
+ghost use Rattle.mesh_shape.specs.Shape.{shape_fault};
 ghost use Rattle.mesh_play.specs.Play.{IsAllowed};
 
 use crate::meshes::tetrahedron;
@@ -10,8 +10,8 @@ use grid_base::{ID_MAX, NoMemory, Point};
 use half_mesh::HalfMesh;
 use mesh_base::{FaceId, FaceIds, MeshLists, Scale, Surface, VertexId};
 use mesh_journal::JournalMesh;
-use mesh_plain::shape;
 use mesh_play::{Act, Answer, Answers, Call, Question, play};
+use mesh_shape::shape;
 use std::alloc::Global;
 use std::process::Abort;
 use std::test::Fail;

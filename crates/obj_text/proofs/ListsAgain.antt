@@ -12,8 +12,8 @@ use Rattle.mesh_base.specs.Changes.{corners_of}
 use Rattle.mesh_base.specs.declared.limits.Scale.{Scale}
 use Rattle.mesh_base.specs.Given.{mesh_under}
 use Rattle.mesh_base.proofs.Ordered.{entries-of_sorted}
-use Rattle.mesh_plain.specs.Shape.{HasNoFault, fault_but_balance, no_vertex_from, bad_corner}
-use Rattle.mesh_plain.proofs.Lists.{none_of, none_mapped, all_vertices, between, no_fault_but_balance, sorted_numbers, sound-mesh_under}
+use Rattle.mesh_shape.specs.Shape.{HasNoFault, fault_but_balance, no_vertex_from, bad_corner}
+use Rattle.mesh_shape.proofs.Lists.{none_of, none_mapped, all_vertices, between, no_fault_but_balance, sorted_numbers, sound-mesh_under}
 use Rattle.obj_text.specs.Obj.{Lists, lists_of}
 use Rattle.obj_text.specs.Written.{rank_among, rank, ranks, mesh_text, ranked_lists}
 use Rattle.obj_text.specs.ListsWritten.{point_line, triangle_line, lists_text}

@@ -10,7 +10,7 @@ use Rattle.std.proofs.lemmas.Bool.{cases_lt, le-leb, ltb-true}
 use Rattle.mesh_base.specs.Mesh.{Mesh, IsLiveVertex}
 use Rattle.mesh_base.proofs.Ordered.{entries-of_sorted}
 use Rattle.mesh_base.proofs.WalkSteps.{both_of, less_true}
-use Rattle.mesh_plain.proofs.Lists.{sorted_numbers}
+use Rattle.mesh_shape.proofs.Lists.{sorted_numbers}
 use Rattle.obj_text.specs.Written.{rank, points_in_order}
 use Rattle.obj_text.specs.Laws.{KeepsOrder}
 use Rattle.obj_text.proofs.Renumbered.{keys_up_to, rises_at, none_up_to}

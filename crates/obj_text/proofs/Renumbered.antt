@@ -26,8 +26,8 @@ use Rattle.mesh_base.specs.Placements.{rest_positions, position_or_origin, posit
 use Rattle.mesh_base.proofs.Listed.{each_found, at_key}
 use Rattle.mesh_base.proofs.WalkSteps.{both_of, less_true}
 use Rattle.mesh_base.proofs.Ordered.{entries-of_sorted}
-use Rattle.mesh_plain.proofs.Lists.{numbered, sorted_numbers}
-use Rattle.mesh_plain.proofs.Faults.{runs_given}
+use Rattle.mesh_shape.proofs.Lists.{numbered, sorted_numbers}
+use Rattle.mesh_shape.proofs.Faults.{runs_given}
 use Rattle.obj_text.specs.Obj.{Lists}
 use Rattle.obj_text.specs.Written.{rank, ranks, ranked_lists}
 use Rattle.obj_text.specs.Laws.{renumbered, ListsGiveRenumbered, StaysClosed, StaysClear}

@@ -6,7 +6,7 @@ use Rattle.grid_base.specs.declared.Point.{Point}
 use Rattle.grid_base.specs.Points.{position_of}
 use Rattle.mesh_base.specs.declared.limits.Scale.{Scale}
 use Rattle.mesh_base.specs.Given.{mesh_under}
-use Rattle.mesh_plain.specs.Shape.{HasNoFault}
+use Rattle.mesh_shape.specs.Shape.{HasNoFault}
 use Rattle.obj_text.specs.Obj.{lists_of}
 use Rattle.obj_text.specs.Written.{mesh_text}
 use Rattle.obj_text.specs.ListsWritten.{lists_text}

@@ -7,8 +7,8 @@ use Rattle.grid_base.specs.declared.TheConstants.{VERTICES_MAX, DECIMALS_MAX}
 use Rattle.grid_base.specs.declared.Point.{Point}
 use Rattle.grid_base.specs.Points.{position_of}
 use Rattle.mesh_base.specs.Changes as changes
-use Rattle.mesh_plain.specs.Shape.{no_vertex_from, bad_corner}
-use Rattle.mesh_plain.proofs.Lists.{none_of, none_mapped, all_vertices, between}
+use Rattle.mesh_shape.specs.Shape.{no_vertex_from, bad_corner}
+use Rattle.mesh_shape.proofs.Lists.{none_of, none_mapped, all_vertices, between}
 use Rattle.line_text.specs.declared.fault.TextWhy.{TextWhy}
 use Rattle.line_text.specs.Texts.{numbered_lines}
 use Rattle.line_text.specs.Numbers.{fixed_text}

@@ -11,8 +11,8 @@ use Rattle.grid_base.specs.Points.{position_of}
 use Rattle.mesh_base.specs.declared.limits.Scale.{Scale}
 use Rattle.mesh_base.specs.Limits.{limits_of}
 use Rattle.mesh_base.proofs.MeshLaws.{few_vertices_of, few_faces_of}
-use Rattle.mesh_plain.specs.Shape.{HasNoFault, fault_but_balance}
-use Rattle.mesh_plain.proofs.Lists.{none_of, few, no_fault_but_balance}
+use Rattle.mesh_shape.specs.Shape.{HasNoFault, fault_but_balance}
+use Rattle.mesh_shape.proofs.Lists.{none_of, few, no_fault_but_balance}
 use Rattle.line_text.specs.Texts.{numbered_lines}
 use Rattle.line_text.specs.WrittenLines.{line_of_words}
 use Rattle.line_text.proofs.WrittenAgain.{IsSpelled, tests_spell}

@@ -6,9 +6,9 @@ use Rattle.grid_base.specs.declared.TheConstants.{TEXT_MAX}
 use Rattle.grid_base.specs.Points.{point_at}
 use Rattle.mesh_base.specs.declared.Scale.{Scale}
 use Rattle.mesh_base.specs.declared.ShapeFault.{ShapeFault}
-use Rattle.mesh_plain.specs.Shape.{shape_fault}
-use Rattle.mesh_plain.proofs.Lists.{sound-mesh_under}
-use Rattle.mesh_plain.proofs.Faults.{closed-mesh_under}
+use Rattle.mesh_shape.specs.Shape.{shape_fault}
+use Rattle.mesh_shape.proofs.Lists.{sound-mesh_under}
+use Rattle.mesh_shape.proofs.Faults.{closed-mesh_under}
 use Rattle.line_text.specs.declared.TextFault.{TextFault}
 use Rattle.obj_text.specs.Obj.{Lists, lists_of}
 use Rattle.step_text.specs.declared.Placed.{Placed}

@@ -15,7 +15,7 @@ use Rattle.mesh_base.specs.Changes.{corners_of}
 use Rattle.mesh_base.specs.Given.{Faces}
 use Rattle.mesh_base.proofs.MeshLaws.{few_vertices_of, few_faces_of}
 use Rattle.mesh_base.proofs.ListedPairs.{all_flat_mapped, all_mapped, all_weaker}
-use Rattle.mesh_plain.specs.Shape.{is_vertex, bad_corner, no_vertex_from, repeats, repeated_from, doubled_from, runs_in, numbers_to, first_unbalanced, shape_fault}
+use Rattle.mesh_shape.specs.Shape.{is_vertex, bad_corner, no_vertex_from, repeats, repeated_from, doubled_from, runs_in, numbers_to, first_unbalanced, shape_fault}
 use Rattle.edit_acts.proofs.Found.{found_both}
 use Rattle.log_text.specs.declared.TheConstants.{COUNT_MAX, SEEN_MAX, CORNER_MAX}
 use Rattle.log_read.specs.Laws.{IsFrom, IsShapeInRange}

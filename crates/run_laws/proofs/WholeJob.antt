@@ -8,7 +8,7 @@ use Rattle.grid_base.specs.Points.{point_at}
 use Rattle.grid_decided.specs.Decided.{meets_exactly}
 use Rattle.mesh_base.proofs.Ordered.{entries-of_sorted}
 use Rattle.mesh_base.proofs.Finite.{none_in_empty}
-use Rattle.mesh_plain.proofs.Lists.{sorted_numbers}
+use Rattle.mesh_shape.proofs.Lists.{sorted_numbers}
 use Rattle.edit_base.specs.declared.PassKind.{PassKind}
 use Rattle.edit_base.specs.declared.PassKind.TheVariants as pass
 use Rattle.step_text.specs.declared.Directive.TheVariants as directive

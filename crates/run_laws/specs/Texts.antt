@@ -6,7 +6,7 @@ use Rattle.grid_base.specs.declared.TheConstants.{TEXT_MAX}
 use Rattle.line_text.specs.declared.fault.TextFault.{TextFault}
 use Rattle.mesh_base.specs.declared.Scale.{Scale}
 use Rattle.mesh_base.specs.declared.faults.ShapeFault.{ShapeFault}
-use Rattle.mesh_plain.specs.Shape.{shape_fault}
+use Rattle.mesh_shape.specs.Shape.{shape_fault}
 use Rattle.obj_text.specs.Obj.{Lists, lists_of}
 use Rattle.step_text.specs.declared.directive.Placed.{Placed}
 use Rattle.step_text.specs.Steps.{steps_of}

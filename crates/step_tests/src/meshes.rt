@@ -1,7 +1,8 @@
 //! Meshes for the examples.
 use grid_base::{NoMemory, Point};
 use mesh_base::{MeshLists, Points, Scale, Triangles};
-use mesh_plain::{PlainMesh, shape};
+use mesh_plain::PlainMesh;
+use mesh_shape::shape;
 use std::alloc::Global;
 use std::process::Abort;
 

@@ -5,10 +5,10 @@ use Rattle.mesh_base.specs.declared.PairName.{PairName}
 use Rattle.mesh_base.specs.declared.ShapeFault.{ShapeFault}
 use Rattle.mesh_base.specs.declared.limits.Scale.{Scale}
 use Rattle.mesh_base.specs.Mesh.{Mesh}
-use Rattle.mesh_plain.specs.Shape.{shape_fault}
-use Rattle.mesh_faults.specs.ShapeFaults.{shape_faults}
+use Rattle.mesh_shape.specs.Shape.{shape_fault}
+use Rattle.mesh_shape.specs.ShapeFaults.{shape_faults}
 use Rattle.mesh_faults.specs.MeetingPairs.{meeting_pairs}
-use Rattle.mesh_faults.proofs.Heads.{first_is_shape_fault}
+use Rattle.mesh_shape.proofs.Heads.{first_is_shape_fault}
 use Rattle.mesh_faults.proofs.Still.{first_is_first_meeting}
 use Rattle.obj_text.specs.Obj.{Lists}
 use Rattle.log_text.specs.declared.Refusal.{Refusal}

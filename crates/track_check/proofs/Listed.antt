@@ -10,7 +10,7 @@ use Rattle.mesh_base.specs.declared.MeshLists.{MeshLists}
 use Rattle.mesh_base.specs.declared.ShapeFault.{ShapeFault}
 use Rattle.mesh_base.specs.declared.limits.Scale.{Scale}
 use Rattle.mesh_base.specs.Given.{mesh_under}
-use Rattle.mesh_faults.specs.ShapeFaults.{shape_faults}
+use Rattle.mesh_shape.specs.ShapeFaults.{shape_faults}
 use Rattle.mesh_faults.specs.MeetingPairs.{meeting_pairs}
 use Rattle.obj_text.specs.Views.{lists_view}
 use Rattle.track_input.specs.Job.{mesh_of_lists}

@@ -9,7 +9,7 @@ use Rattle.mesh_base.specs.declared.PairName.{PairName}
 use Rattle.mesh_base.specs.declared.ShapeFault.{ShapeFault}
 use Rattle.mesh_base.specs.declared.limits.Scale.{Scale}
 use Rattle.mesh_base.specs.Mesh.{Mesh}
-use Rattle.mesh_faults.specs.ShapeFaults.{shape_faults}
+use Rattle.mesh_shape.specs.ShapeFaults.{shape_faults}
 use Rattle.mesh_faults.specs.MeetingPairs.{meeting_pairs}
 use Rattle.obj_text.specs.Obj.{Lists}
 use Rattle.log_text.specs.declared.LogLine.TheVariants.{Refused}

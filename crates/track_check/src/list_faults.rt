@@ -1,6 +1,6 @@
 //! All that is wrong with lists.
 ghost use Rattle.std.specs.Prelude.{◌≡◌, map, length, take, slice_get, option_map, IfOk, None};
-ghost use Rattle.mesh_plain.specs.Shape.{shape_fault};
+ghost use Rattle.mesh_shape.specs.Shape.{shape_fault};
 ghost use Rattle.mesh_base.specs.Given.{mesh_under};
 ghost use Rattle.obj_text.specs.Views.{lists_view};
 ghost use Rattle.mesh_faults.specs.MeetingPairs.{meeting_pairs};
@@ -10,8 +10,9 @@ use crate::fault::{FAULTS_MAX, Fault, refusal_of};
 use grid_base::NoMemory;
 use log_text::Refusal;
 use mesh_base::{MeshLists, PairName, Scale, ShapeFault};
-use mesh_faults::{meeting_pairs, shape_faults};
+use mesh_faults::meeting_pairs;
 use mesh_journal::JournalMesh;
+use mesh_shape::shape_faults;
 use std::alloc::Global;
 
 // Faults of shape.

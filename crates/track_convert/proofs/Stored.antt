@@ -6,7 +6,7 @@ use Rattle.grid_base.specs.declared.TheConstants.{DECIMALS_MAX}
 use Rattle.grid_base.specs.declared.Point.{Point}
 use Rattle.grid_base.specs.Points.{position_of}
 use Rattle.mesh_base.specs.declared.limits.Scale.{Scale}
-use Rattle.mesh_plain.specs.Shape.{shape_fault}
+use Rattle.mesh_shape.specs.Shape.{shape_fault}
 use Rattle.obj_text.specs.Obj.{Lists}
 use Rattle.obj_text.proofs.ListsAgain.{lists_are_read_lem}
 use Rattle.other_text.proofs.OffAgain.{off_is_read_lem}

@@ -5,7 +5,7 @@ use Rattle.line_text.specs.WrittenLines.{line_of_words}
 use Rattle.mesh_base.specs.declared.ShapeFault.{ShapeFault}
 use Rattle.mesh_base.specs.declared.limits.Scale.{Scale}
 use Rattle.mesh_base.specs.declared.FileWord.TheVariants as file
-use Rattle.mesh_plain.specs.Shape.{shape_fault}
+use Rattle.mesh_shape.specs.Shape.{shape_fault}
 use Rattle.obj_text.specs.Obj.{Lists}
 use Rattle.log_text.specs.declared.LogLine.TheVariants.{Refused}
 use Rattle.log_text.specs.declared.Refusal.{Refusal}

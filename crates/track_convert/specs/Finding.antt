@@ -1,7 +1,7 @@
 -- What the code found, as a conversion gives it.
 use Rattle.std.specs.Prelude.{◌≡◌, ℕ, List, length, Option, None, Result, Ok, Err}
 use Rattle.mesh_base.specs.declared.limits.Scale.{Scale}
-use Rattle.mesh_plain.specs.Shape.{shape_fault}
+use Rattle.mesh_shape.specs.Shape.{shape_fault}
 use Rattle.obj_text.specs.Obj.{Lists}
 use Rattle.obj_text.specs.Views.{lists_view}
 use Rattle.log_text.specs.declared.Refusal.{Refusal}

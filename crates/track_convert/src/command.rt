@@ -1,7 +1,7 @@
 ghost use Rattle.std.specs.Prelude.{◌≡◌, ◌≤◌, ◌∷◌, [], ℕ, length, Ok, Err, IfOk};
 ghost use Rattle.std.specs.List.{AllByRecursion};
 ghost use Rattle.grid_base.specs.declared.TheConstants.{DECIMALS_MAX};
-ghost use Rattle.mesh_plain.specs.Shape.{shape_fault};
+ghost use Rattle.mesh_shape.specs.Shape.{shape_fault};
 ghost use Rattle.obj_text.specs.Views.{lists_view};
 ghost use Rattle.outside_io.specs.Outside.{Counts};
 ghost use Rattle.track_input.specs.Words.{MeshName};

@@ -20,9 +20,9 @@ use Rattle.mesh_base.specs.Sides.{IsClosed}
 use Rattle.mesh_base.proofs.Finite.{none_in_empty}
 use Rattle.mesh_base.proofs.Listed.{each_found}
 use Rattle.mesh_base.proofs.WalkSteps.{both_of, less_true}
-use Rattle.mesh_plain.specs.Shape.{shape_fault}
-use Rattle.mesh_plain.proofs.Lists.{numbered, len_numbered, of_live, get_map, is_live}
-use Rattle.mesh_plain.proofs.Faults.{no_fault}
+use Rattle.mesh_shape.specs.Shape.{shape_fault}
+use Rattle.mesh_shape.proofs.Lists.{numbered, len_numbered, of_live, get_map, is_live}
+use Rattle.mesh_shape.proofs.Faults.{no_fault}
 use Rattle.obj_text.specs.Written.{rank, ranks, ranked_lists}
 use Rattle.obj_text.specs.Laws.{renumbered}
 use Rattle.obj_text.proofs.RankBounds.{rank_is_some}

@@ -14,8 +14,8 @@ use Rattle.mesh_base.specs.Shifts.{Shifts, NameLive}
 use Rattle.mesh_base.specs.Sides.{IsClosed}
 use Rattle.mesh_base.specs.Valid.{IsValidSurface}
 use Rattle.mesh_base.proofs.ListedPairs.{all_mapped, all_weaker}
-use Rattle.mesh_plain.specs.Shape.{shape_fault}
-use Rattle.mesh_plain.proofs.Faults.{no_fault}
+use Rattle.mesh_shape.specs.Shape.{shape_fault}
+use Rattle.mesh_shape.proofs.Faults.{no_fault}
 use Rattle.pair_scan.proofs.Paths.{ids_sorted}
 use Rattle.mesh_base.specs.Given.{mesh_under}
 use Rattle.mesh_rows.specs.Making.{with_solids}

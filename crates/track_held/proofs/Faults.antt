@@ -8,7 +8,7 @@ use Rattle.grid_base.specs.declared.Point.{Point}
 use Rattle.mesh_base.specs.declared.limits.Scale.TheVariants.{Large}
 use Rattle.mesh_base.specs.Given.{Faces}
 use Rattle.mesh_base.specs.declared.ShapeFault.TheVariants.{TooManyVertices, TooManyFaces}
-use Rattle.mesh_plain.specs.Shape.{shape_fault}
+use Rattle.mesh_shape.specs.Shape.{shape_fault}
 use Rattle.track_held.specs.declared.given.GivenPoint.{GivenPoint}
 use Rattle.track_held.specs.declared.given.GivenFace.{GivenFace}
 use Rattle.track_held.specs.declared.new_tracker.MakeFault.{MakeFault}

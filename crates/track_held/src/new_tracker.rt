@@ -14,7 +14,7 @@ use crate::held::Held;
 use grid_base::{BOX, FACES_MAX, NoMemory, Point, VERTICES_MAX};
 use mesh_base::{MeshLists, PairName, Points, Scale, ShapeFault, ShapeRefusal, Triangles};
 use mesh_journal::JournalMesh;
-use mesh_plain::shape;
+use mesh_shape::shape;
 use pair_scan::first_meeting;
 use std::alloc::Global;
 

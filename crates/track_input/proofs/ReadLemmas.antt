@@ -7,7 +7,7 @@ use Rattle.grid_base.proofs.PointLaws.{point_at-position_of}
 use Rattle.mesh_base.specs.declared.MeshLists.{MeshLists}
 use Rattle.mesh_base.specs.declared.Scale.{Scale}
 use Rattle.mesh_base.specs.Given.{mesh_under}
-use Rattle.mesh_plain.specs.Shape.{shape_fault}
+use Rattle.mesh_shape.specs.Shape.{shape_fault}
 use Rattle.obj_text.specs.Obj.{lists_of}
 use Rattle.obj_text.specs.Views.{lists_view}
 use Rattle.step_text.specs.declared.Placed.{Placed}

@@ -9,7 +9,7 @@ use grid_base::NoMemory;
 use line_text::ReadFault;
 use log_text::Refusal;
 use mesh_base::{FileWord, MeshLists, Scale, ShapeRefusal};
-use mesh_plain::shape;
+use mesh_shape::shape;
 use obj_text::read_obj;
 use outside_io::{Fetched, Outside, Stop};
 use std::alloc::Global;

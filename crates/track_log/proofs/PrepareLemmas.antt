@@ -14,9 +14,9 @@ use Rattle.mesh_base.specs.Mesh.{Mesh}
 use Rattle.mesh_base.specs.Valid.{IsValidSurface}
 use Rattle.mesh_base.specs.Placements.{IsClearMesh}
 use Rattle.mesh_base.proofs.MeshLaws.{small_texts_of}
-use Rattle.mesh_plain.specs.Shape.{shape_fault}
-use Rattle.mesh_plain.proofs.Lists.{sound-mesh_under}
-use Rattle.mesh_plain.proofs.Faults.{closed-mesh_under}
+use Rattle.mesh_shape.specs.Shape.{shape_fault}
+use Rattle.mesh_shape.proofs.Lists.{sound-mesh_under}
+use Rattle.mesh_shape.proofs.Faults.{closed-mesh_under}
 use Rattle.mesh_journal.specs.Journal.{mesh_in}
 use Rattle.line_text.specs.declared.TextFault.{TextFault}
 use Rattle.obj_text.specs.Obj.{lists_of}

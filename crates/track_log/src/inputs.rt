@@ -13,7 +13,7 @@ use log_read::read_log;
 use log_text::{Log, Refusal};
 use mesh_base::{FileWord, MeshLists, Scale, ShapeRefusal};
 use mesh_journal::JournalMesh;
-use mesh_plain::shape;
+use mesh_shape::shape;
 use obj_text::read_obj;
 use outside_io::{Fetched, Outside, Stop};
 use pair_scan::first_meeting;

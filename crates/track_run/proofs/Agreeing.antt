@@ -3,9 +3,9 @@ use Rattle.std.proofs.Common.{◌≡◌, ℕ, List, [], ◌∷◌, ◌++◌, len
 use Rattle.std.proofs.lemmas.List.{length-map}
 use Rattle.grid_base.specs.Points.{point_at}
 use Rattle.mesh_base.specs.Mesh.{Mesh}
-use Rattle.mesh_plain.specs.Shape.{shape_fault}
-use Rattle.mesh_plain.proofs.Lists.{sound-mesh_under}
-use Rattle.mesh_plain.proofs.Faults.{closed-mesh_under}
+use Rattle.mesh_shape.specs.Shape.{shape_fault}
+use Rattle.mesh_shape.proofs.Lists.{sound-mesh_under}
+use Rattle.mesh_shape.proofs.Faults.{closed-mesh_under}
 use Rattle.step_choose.specs.Settings.{AreWithinLimits}
 use Rattle.step_text.specs.declared.Placed.{Placed}
 use Rattle.step_text.specs.Ranges.{AreInRange}

@@ -8,12 +8,12 @@ use Rattle.mesh_base.specs.Mesh.{IsSound}
 use Rattle.mesh_base.specs.Placements.{IsClearMesh}
 use Rattle.pair_scan.proofs.Clear.{clear_exactly, answer_meets}
 use Rattle.pair_scan.proofs.InOrder.{answer_is_first}
-use Rattle.mesh_plain.proofs.Lists.{sound-mesh_under}
+use Rattle.mesh_shape.proofs.Lists.{sound-mesh_under}
 use Rattle.mesh_base.specs.declared.UseWhy.{UseWhy}
 use Rattle.mesh_base.specs.declared.PairName.{PairName}
 use Rattle.mesh_base.specs.declared.ShapeFault.{ShapeFault}
 use Rattle.mesh_base.specs.declared.FileWord.TheVariants as file
-use Rattle.mesh_plain.specs.Shape.{shape_fault}
+use Rattle.mesh_shape.specs.Shape.{shape_fault}
 use Rattle.line_text.specs.declared.TextFault.{TextFault}
 use Rattle.obj_text.specs.Obj.{Lists, lists_of}
 use Rattle.step_text.specs.declared.Placed.{Placed}

@@ -6,8 +6,8 @@ use Rattle.std.proofs.lemmas.List.{length-map}
 use Rattle.grid_base.specs.Points.{point_at}
 use Rattle.mesh_base.specs.declared.PairName.{PairName}
 use Rattle.mesh_base.specs.declared.Scale.{Scale}
-use Rattle.mesh_plain.specs.Shape.{shape_fault}
-use Rattle.mesh_plain.proofs.Lists.{sound-mesh_under}
+use Rattle.mesh_shape.specs.Shape.{shape_fault}
+use Rattle.mesh_shape.proofs.Lists.{sound-mesh_under}
 use Rattle.pair_scan.proofs.Clear.{clear_exactly}
 use Rattle.obj_text.specs.Obj.{Lists, lists_of}
 use Rattle.outside_io.specs.Desk.{Files}

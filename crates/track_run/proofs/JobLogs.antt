@@ -8,9 +8,9 @@ use Rattle.mesh_base.specs.declared.Scale.{Scale}
 use Rattle.mesh_base.specs.Mesh.{Mesh, IsSound}
 use Rattle.mesh_base.specs.Sides.{IsClosed}
 use Rattle.mesh_base.specs.Valid.{IsValidSurface}
-use Rattle.mesh_plain.specs.Shape.{shape_fault}
-use Rattle.mesh_plain.proofs.Lists.{sound-mesh_under}
-use Rattle.mesh_plain.proofs.Faults.{closed-mesh_under}
+use Rattle.mesh_shape.specs.Shape.{shape_fault}
+use Rattle.mesh_shape.proofs.Lists.{sound-mesh_under}
+use Rattle.mesh_shape.proofs.Faults.{closed-mesh_under}
 use Rattle.pair_scan.proofs.Clear.{clear_exactly}
 use Rattle.line_text.specs.declared.TextFault.{TextFault}
 use Rattle.obj_text.specs.Obj.{Lists, lists_of}

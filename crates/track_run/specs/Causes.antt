@@ -6,7 +6,7 @@ use Rattle.mesh_base.specs.declared.PairName.{PairName}
 use Rattle.mesh_base.specs.Mesh.{Mesh}
 use Rattle.mesh_base.specs.Placements.{IsClearMesh}
 use Rattle.pair_scan.specs.Scan.{IsMeeting, NoneMeetsBefore}
-use Rattle.mesh_plain.specs.Shape.{shape_fault}
+use Rattle.mesh_shape.specs.Shape.{shape_fault}
 use Rattle.obj_text.specs.Obj.{Lists, lists_of}
 use Rattle.step_text.specs.declared.Placed.{Placed}
 use Rattle.step_text.specs.Steps.{steps_of}

@@ -9,7 +9,7 @@ use Rattle.mesh_sizing.specs.declared.sizing.Band.{Band}
 use Rattle.mesh_base.specs.declared.Scale.{Scale}
 use Rattle.mesh_base.specs.Limits.{text_most}
 use Rattle.mesh_base.specs.Placements.{IsClearMesh}
-use Rattle.mesh_plain.specs.Shape.{shape_fault}
+use Rattle.mesh_shape.specs.Shape.{shape_fault}
 use Rattle.obj_text.specs.Obj.{Lists, lists_of}
 use Rattle.step_text.specs.declared.Placed.{Placed}
 use Rattle.step_text.specs.Steps.{steps_of}

@@ -16,7 +16,7 @@ use Rattle.mesh_base.specs.Given.{mesh_of}
 use Rattle.mesh_base.specs.Mesh.{Mesh}
 use Rattle.mesh_base.specs.Valid.{IsValidSurface}
 use Rattle.mesh_base.proofs.ListedPairs.{all_joined}
-use Rattle.mesh_plain.specs.Shape.{shape_fault}
+use Rattle.mesh_shape.specs.Shape.{shape_fault}
 use Rattle.obj_text.specs.Obj.{Lists}
 use Rattle.obj_text.specs.Views.{lists_view}
 use Rattle.edit_base.specs.declared.PassKind.TheVariants as pass

@@ -1,6 +1,6 @@
 use Rattle.std.proofs.Common.{◌≡◌, None, Ok, sym, ap, subst, ◌∙◌}
 use Rattle.mesh_base.specs.Mesh.{Mesh, IsSound}
-use Rattle.mesh_plain.specs.Numbered.{numbered}
+use Rattle.mesh_shape.specs.Numbered.{numbered}
 use Rattle.half_mesh.specs.Half.{mesh_in}
 use Rattle.half_mesh.specs.States.{State}
 use Rattle.mesh_rows.specs.Making.{of_all_rows}

@@ -2,7 +2,7 @@ use Rattle.std.proofs.Common.{sym, ap, subst, ◌∙◌}
 use Rattle.mesh_base.specs.declared.ids.Corners.{Corners}
 use Rattle.mesh_base.specs.Mesh.{Mesh}
 use Rattle.mesh_base.specs.Changes.{corners_of, IsFresh}
-use Rattle.mesh_plain.specs.Numbered.{numbered}
+use Rattle.mesh_shape.specs.Numbered.{numbered}
 use Rattle.half_mesh.specs.Half.{mesh_in}
 use Rattle.half_mesh.specs.States.{State}
 use Rattle.mesh_rows.specs.declared.rows.FaceRow.{FaceRow}

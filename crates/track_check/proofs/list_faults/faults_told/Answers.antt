@@ -1,7 +1,7 @@
 use Rattle.std.proofs.Common.{◌≡◌, ◌<◌, [], length, map, take, slice_get, sym, ap, ◌∙◌, arith}
 use Rattle.std.proofs.lemmas.Result.{IfOk-weaker}
 use Rattle.mesh_base.specs.Given.{mesh_under}
-use Rattle.mesh_faults.specs.ShapeFaults.{shape_faults}
+use Rattle.mesh_shape.specs.ShapeFaults.{shape_faults}
 use Rattle.mesh_faults.specs.MeetingPairs.{meeting_pairs}
 use Rattle.obj_text.specs.Views.{lists_view}
 use Rattle.track_check.specs.Check.{shape_as_fault, pair_as_fault, faults_told}

@@ -1,7 +1,7 @@
 use Rattle.std.proofs.Common.{sym, subst}
 use Rattle.std.proofs.lemmas.Result.{err_from_is_err_and}
 use Rattle.mesh_base.specs.Sides.{IsClosed}
-use Rattle.mesh_plain.proofs.Faults.{closed-mesh_under}
+use Rattle.mesh_shape.proofs.Faults.{closed-mesh_under}
 use Rattle.track_input.specs.declared.inputs.Ready.TheVariants as ready
 use Rattle.track_engine.specs.Answered.{known}
 use Rattle.track_engine.specs.Targets.{target_of}

@@ -9,7 +9,7 @@ use Rattle.id_table.specs.Stock.{Stock}
 use Rattle.half_mesh.specs.Mapped.{map_values}
 use Rattle.half_mesh.proofs.Grounds.{ground_same}
 use Rattle.half_mesh.proofs.Outcomes.{on_ok, on_err}
-use Rattle.mesh_plain.proofs.Outcomes.{on_both}
+use Rattle.mesh_shape.proofs.Outcomes.{on_both}
 use Rattle.half_mesh.proofs.Fanned.{fanned-insert, fanned-none, no_row}
 use Rattle.half_mesh.proofs.fans.Fans.add.Goals as goal
 

@@ -1,8 +1,8 @@
 use Rattle.std.proofs.Common.{sym, subst, ap, ◌∙◌, All}
 use Rattle.mesh_base.specs.Mesh.{IsSound}
-use Rattle.mesh_plain.specs.Numbered.{numbered}
-use Rattle.mesh_plain.proofs.Numbers.{sound-numbered}
-use Rattle.mesh_plain.proofs.Outcomes.{All-empty}
+use Rattle.mesh_shape.specs.Numbered.{numbered}
+use Rattle.mesh_shape.proofs.Numbers.{sound-numbered}
+use Rattle.mesh_shape.proofs.Outcomes.{All-empty}
 use Rattle.half_mesh.specs.States.{State, AreApart, with_mesh, meshes_of, NoneBuried}
 use Rattle.half_mesh.proofs.StateLaws.{apart-none}
 use Rattle.half_mesh.proofs.half.HalfMesh.of_numbered.Goals as goal

@@ -4,7 +4,7 @@ use Rattle.std.specs.FinMap as finite
 use Rattle.mesh_base.specs.Given.{mesh_under}
 use Rattle.mesh_base.specs.Mesh.{Mesh, IsLiveFace, AreLive, AreDifferent}
 use Rattle.mesh_base.specs.Changes.{with_face, corners_of}
-use Rattle.mesh_plain.proofs.Lists.{mesh_under-face, sound-mesh_under}
+use Rattle.mesh_shape.proofs.Lists.{mesh_under-face, sound-mesh_under}
 use Rattle.half_mesh.proofs.GivenLists.{face_ids_of, len_faces, corners_given}
 use Rattle.half_mesh.specs.States.{State, none_buried, with_mesh}
 use Rattle.half_mesh.proofs.tables.Tables.add_faces.Goals as goal

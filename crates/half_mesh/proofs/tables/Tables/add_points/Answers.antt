@@ -4,7 +4,7 @@ use Rattle.std.specs.FinMap as finite
 use Rattle.mesh_base.specs.Given.{mesh_under}
 use Rattle.mesh_base.specs.Mesh.{IsLiveVertex}
 use Rattle.mesh_base.specs.Changes.{with_vertex}
-use Rattle.mesh_plain.proofs.Lists.{mesh_under-point, sound-mesh_under, len_numbered}
+use Rattle.mesh_shape.proofs.Lists.{mesh_under-point, sound-mesh_under, len_numbered}
 use Rattle.half_mesh.proofs.GivenLists.{vertex_ids_of}
 use Rattle.half_mesh.specs.States.{State, none_buried, with_mesh}
 use Rattle.half_mesh.proofs.tables.Tables.add_points.Goals as goal

@@ -1,7 +1,7 @@
 use Rattle.std.proofs.Common.{sym, subst, All}
 use Rattle.mesh_base.specs.Mesh.{IsSound}
-use Rattle.mesh_plain.proofs.Lists.{sound-mesh_under}
-use Rattle.mesh_plain.proofs.Outcomes.{All-empty}
+use Rattle.mesh_shape.proofs.Lists.{sound-mesh_under}
+use Rattle.mesh_shape.proofs.Outcomes.{All-empty}
 use Rattle.mesh_plain.proofs.plain.PlainMesh.of.Goals as goal
 
 pub invariant_of-result : goal.invariant_of-result

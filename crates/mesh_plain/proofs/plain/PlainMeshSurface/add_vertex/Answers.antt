@@ -1,6 +1,6 @@
 use Rattle.std.proofs.Common.{ap, arith}
 use Rattle.mesh_base.specs.Mesh.{IsSound}
-use Rattle.mesh_plain.proofs.Outcomes.{on_both}
+use Rattle.mesh_shape.proofs.Outcomes.{on_both}
 use Rattle.mesh_base.specs.Changes.{with_vertex}
 use Rattle.mesh_base.proofs.MeshLaws.{sound-with_vertex}
 use Rattle.mesh_base.specs.declared.limits.Limits.{Limits}

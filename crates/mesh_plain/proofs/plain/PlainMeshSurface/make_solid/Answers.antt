@@ -1,5 +1,5 @@
 use Rattle.mesh_base.specs.Mesh.{IsSound}
-use Rattle.mesh_plain.proofs.Outcomes.{on_both}
+use Rattle.mesh_shape.proofs.Outcomes.{on_both}
 use Rattle.mesh_base.specs.Changes.{with_solid}
 use Rattle.mesh_base.proofs.MeshLaws.{sound-with_solid}
 use Rattle.mesh_plain.proofs.plain.PlainMeshSurface.make_solid.Goals as goal

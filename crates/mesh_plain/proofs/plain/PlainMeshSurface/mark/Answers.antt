@@ -1,6 +1,6 @@
 use Rattle.std.proofs.Common.{sym, subst}
 use Rattle.mesh_base.specs.Mesh.{IsSound}
-use Rattle.mesh_plain.proofs.Outcomes.{All-stored}
+use Rattle.mesh_shape.proofs.Outcomes.{All-stored}
 use Rattle.std.specs.Result.{is_ok}
 use Rattle.mesh_plain.proofs.plain.PlainMeshSurface.mark.Goals as goal
 

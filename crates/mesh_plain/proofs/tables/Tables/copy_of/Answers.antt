@@ -2,7 +2,7 @@ use Rattle.std.proofs.Common.{ap, ◌∙◌}
 use Rattle.mesh_base.specs.Mesh.{Mesh}
 use Rattle.mesh_plain.specs.Copying.{with_vertices_of, with_faces_of}
 use Rattle.mesh_base.specs.Limits.{under}
-use Rattle.mesh_plain.specs.Numbered.{numbered}
+use Rattle.mesh_shape.specs.Numbered.{numbered}
 use Rattle.mesh_plain.proofs.Copies.{copied}
 use Rattle.mesh_plain.proofs.tables.Tables.copy_of.Goals as goal
 

@@ -2,7 +2,7 @@ use Rattle.std.proofs.Common.{◌≡◌, ◌<◌, length, take, get_or, [], ◌�
 use Rattle.std.proofs.lemmas.List.{take_more}
 use Rattle.mesh_base.specs.Given.{mesh_under}
 use Rattle.mesh_base.specs.Changes.{with_vertex, with_face, corners_of}
-use Rattle.mesh_plain.proofs.Lists.{mesh_under-point, mesh_under-face}
+use Rattle.mesh_shape.proofs.Lists.{mesh_under-point, mesh_under-face}
 use Rattle.mesh_plain.proofs.tables.Tables.of.Goals as goal
 
 pub loop-p-preserved : goal.loop-p-preserved

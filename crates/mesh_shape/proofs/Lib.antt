@@ -1,0 +1,16 @@
+pub mod Lists
+pub mod Outcomes
+pub mod Rotations
+pub mod AllBalanced
+pub mod Faults
+pub mod Earlier
+pub mod Numbers
+pub mod Prefixes
+pub mod Steps
+pub mod Firsts
+pub mod Heads
+pub mod Turns
+pub mod Once
+pub mod Differing
+pub mod NumberedPairs
+pub mod Unbalanced
