@@ -13,7 +13,7 @@ pub mod MovesNamed
 pub mod KeysKept
 pub mod InOrder
 pub mod EdgesInOrder
-mod EdgesFrom
+pub mod NeighboursAbove
 pub mod PointOf
 pub mod NearReading
 pub mod Deeper

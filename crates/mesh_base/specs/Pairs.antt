@@ -7,7 +7,7 @@ use Rattle.std.specs.FinMap as finite
 use Rattle.mesh_base.specs.declared.ids.Corners.{Corners}
 use Rattle.mesh_base.specs.declared.ids.PairName.{PairName}
 use Rattle.mesh_base.specs.Mesh.{Mesh, HasCorners}
-use Rattle.mesh_base.specs.Sides.{IsEdge, has_corner, runs}
+use Rattle.mesh_base.specs.Sides.{IsEdge, above, has_corner, runs}
 use Rattle.mesh_base.specs.SideList.{edge_cmp}
 
 -- the name of a pair, and the corners of its face
@@ -38,6 +38,10 @@ id_pairs ids = flat_map (λ u. map (λ v. (u, v)) (filter (λ v. nat_lt u v) ids
 -- the edges, the smaller id first, in order of the smaller and then of the larger
 abbrev pub edges : Mesh → List (ℕ × ℕ)
 edges m = filter (λ e. is_edge m e.0 e.1) (id_pairs (finite.keys m.points))
+
+-- the vertices above v that share an edge with it, rising
+abbrev pub neighbours_above : Mesh → ℕ → List ℕ
+neighbours_above m v = filter (λ w. is_edge m v w) (above v (finite.keys m.points))
 
 -- the edge with each face that has neither of its ends
 abbrev pub pairs_of : Mesh → ℕ × ℕ → List Pair

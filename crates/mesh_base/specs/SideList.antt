@@ -54,3 +54,16 @@ HasSidesOf m faces sides = HasSides sides (neighbours_in_any m faces)
 abbrev pub AddsSides : List (ℕ × ℕ) → List (ℕ × ℕ) → (ℕ → ℕ → Bool) → Type 0
 AddsSides old new named =
     (u v : ℕ) → has_side new u v ≡ (has_side old u v || (nat_lt u v && named u v))
+
+-- whether the list has the id
+abbrev pub has_id : List ℕ → ℕ → Bool
+has_id ids w = list_any (eq_by_cmp nat_cmp w) ids
+
+-- the list has the ids above v that the test names
+abbrev pub HasIdsAbove : ℕ → List ℕ → (ℕ → Bool) → Type 0
+HasIdsAbove v ids named = (w : ℕ) → has_id ids w ≡ (nat_lt v w && named w)
+
+-- the list has what it had before, and those besides
+abbrev pub AddsIdsAbove : ℕ → List ℕ → List ℕ → (ℕ → Bool) → Type 0
+AddsIdsAbove v old new named =
+    (w : ℕ) → has_id new w ≡ (has_id old w || (nat_lt v w && named w))

@@ -1,13 +1,9 @@
 //! The edges of a mesh in order, found along the sides of its faces.
-ghost use Rattle.std.specs.Prelude.{◌≡◌, ℕ, ◌==◌, ◌&&◌, ◌||◌, take, map, IsOk, IfOk};
-ghost use Rattle.std.specs.List.{filter};
+ghost use Rattle.std.specs.Prelude.{◌≡◌, ℕ, ◌==◌, ◌&&◌, ◌||◌, ◌++◌, map, IsOk, IfOk};
 ghost use Rattle.std.specs.List.Sorted.{IsStrictlySortedBy};
-ghost use Rattle.std.specs.FinMap as finite;
-ghost use Rattle.mesh_base.specs.Mesh.{AreDifferent};
-ghost use Rattle.mesh_base.specs.Sides.{above};
-ghost use Rattle.mesh_base.specs.Pairs.{edges, is_edge};
-ghost use Rattle.mesh_base.specs.SideList.{edge_cmp, has_side, are_neighbours, neighbours_at, neighbours_in_any};
-ghost use Rattle.mesh_base.specs.SideList.{side_rank, HasSmallEnds, HasSides, HasSidesOf, AddsSides};
+ghost use Rattle.mesh_base.specs.Pairs.{edges};
+ghost use Rattle.mesh_base.specs.SideList.{edge_cmp, has_side, are_neighbours, neighbours_at};
+ghost use Rattle.mesh_base.specs.SideList.{side_rank, HasSmallEnds, HasSidesOf, AddsSides};
 
 use crate::ids::{Corners, FaceId, VertexId};
 use crate::lists::Edges;
@@ -100,103 +96,29 @@ pub fn sides_in_order<S: Surface>(
     Ok(Edges::from_vec(sides))
 }
 
-/// Puts the sides between a corner and the two others at the end of the list, as far as the others are above it.
-fn put_sides_from(sides: &mut Sides, v: VertexId, c: Corners) -> Result<(), NoMemory>
-    requires { AreDifferent c }
-    ensures { IsOk result → AddsSides sides.old.items sides.new.items
-        (λ a b. v == a && are_neighbours c a b) }
+/// Puts the edges from a vertex to these others at the end of the list.
+fn put_edges(found: &mut Sides, v: VertexId, others: &[VertexId]) -> Result<(), NoMemory>
+    ensures { IsOk result → found.new.items ≡ found.old.items ++ map (λ w. (v, w)) others.now }
 {
-    if c.first == v {
-        put_above(sides, v, c.second)?;
-        put_above(sides, v, c.third)
-    } else if c.second == v {
-        put_above(sides, v, c.third)?;
-        put_above(sides, v, c.first)
-    } else if c.third == v {
-        put_above(sides, v, c.first)?;
-        put_above(sides, v, c.second)
-    } else {
-        Ok(())
-    }
-}
-
-/// Puts a side at the end of the list, if its second end is above its first.
-fn put_above(sides: &mut Sides, v: VertexId, w: VertexId) -> Result<(), NoMemory>
-    ensures { IsOk result → AddsSides sides.old.items sides.new.items (λ a b. v == a && w == b) }
-{
-    if v.0 < w.0 {
-        sides.push((v, w))?;
+    for w in others {
+        found.push((v, *w))?;
     }
     Ok(())
 }
 
-/// Puts the sides of a face from a vertex to those above it at the end of the list, if the face is live.
-fn put_face_from<S: Surface>(
-    sides: &mut Sides,
-    mesh: &S,
-    v: VertexId,
-    f: FaceId,
-) -> Result<(), NoMemory>
-    ensures { let m = S.mesh mesh.now in
-        IsOk result →
-        AddsSides sides.old.items sides.new.items (λ a b. v == a && neighbours_at m f a b) }
-{
-    match mesh.corners(f) {
-        Some(c) => put_sides_from(sides, v, Corners::of(c)),
-        None => Ok(()),
-    }
-}
-
-/// Sets the list to the sides of faces from a vertex to those above it.
-fn set_sides_from<S: Surface>(
-    sides: &mut Sides,
-    mesh: &S,
-    v: VertexId,
-    faces: &[FaceId],
-) -> Result<(), NoMemory>
-    ensures { let m = S.mesh mesh.now in
-        IsOk result →
-        HasSides sides.new.items (λ a b. v == a && neighbours_in_any m faces.now a b) }
-{
-    sides.clear();
-    for f in faces {
-        put_face_from(sides, mesh, v, *f)?;
-    }
-    Ok(())
-}
-
-/// Sets the list to the edges from a vertex to those above it, in order. The list of faces is one to write in.
-fn set_edges_from<S: Surface>(
-    sides: &mut Sides,
-    mesh: &S,
-    v: VertexId,
-    faces: &mut Vec<FaceId>,
-) -> Result<(), NoMemory>
-    ensures { let m = S.mesh mesh.now in
-        let ends = above v (finite.keys m.points) in
-        IsOk result →
-        sides.new.items ≡ filter (λ e. is_edge m e.0 e.1) (map (λ w. (v, w)) ends) }
-{
-    mesh.faces_at(v, faces)?;
-    set_sides_from(sides, mesh, v, faces.as_slice())?;
-    put_in_order(sides);
-    Ok(())
-}
-
-/// The edges, each by its smaller and its larger end, in order of the smaller and then of the larger. Looks at each vertex with the
-/// faces at it, so it takes time in proportion to the faces where `faces_at` takes time in proportion to what it finds, and in
-/// proportion to the vertices times the faces where `faces_at` looks at each face.
+/// The edges, each by its smaller and its larger end, in order of the smaller and then of the larger. Asks each vertex for its
+/// neighbours, so it takes time in proportion to the faces where `neighbours_above` takes time in proportion to the faces at the
+/// vertex, and in proportion to the vertices times the faces where that looks at each face.
 pub fn edges_in_order<S: Surface>(alloc: Global, mesh: &S) -> Result<Edges, NoMemory>
     ensures { IfOk result (λ found. found ≡ edges (S.mesh mesh.now)) }
 {
     // Room for the edges of a closed mesh is taken at once: three halves of its faces.
     let mut found: Sides = Vec::with_capacity(alloc, mesh.faces() as usize / 2 * 3)?;
-    let mut sides: Sides = Vec::new(alloc);
-    let mut faces: Vec<FaceId> = Vec::new(alloc);
+    let mut others: Vec<VertexId> = Vec::new(alloc);
     let mut last = 0;
     while let Some(v) = mesh.vertex_after(last) {
-        set_edges_from(&mut sides, mesh, v, &mut faces)?;
-        found.extend_from_slice(sides.as_slice())?;
+        mesh.neighbours_above(v, &mut others)?;
+        put_edges(&mut found, v, others.as_slice())?;
         last = v.0;
     }
     Ok(Edges::from_vec(found))

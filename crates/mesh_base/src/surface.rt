@@ -6,6 +6,7 @@ ghost use Rattle.mesh_base.specs.Sides.{above, runs, faces_running, faces_at};
 ghost use Rattle.mesh_base.specs.Changes.{corners_of, corner_list, with_vertex, with_face, without_face, without_vertex, with_point, with_solid, IsFresh, IsFullOfVertices, IsFullOfFaces};
 ghost use Rattle.mesh_base.specs.Kept.{BeginsWith, MarkHolds, StandsFor};
 ghost use Rattle.mesh_base.specs.Near.{faces_near};
+ghost use Rattle.mesh_base.specs.Pairs.{neighbours_above};
 
 use crate::faults::AddFault;
 use crate::ids::{FaceId, VertexId};
@@ -81,6 +82,11 @@ pub trait Surface {
     /// Sets `into` to the faces that have `v` as a corner, by rising id. Where memory is wanting, `into` is empty.
     fn faces_at(&self, v: VertexId, into: &mut Vec<FaceId>) -> Result<(), NoMemory>
         ensures ok { OnOk result (into.new.items ≡ faces_at (mesh self.now) v) }
+        ensures err { OnErr result (into.new.items ≡ []) };
+
+    /// Sets `into` to the vertices above `v` that share an edge with it, by rising id. Where memory is wanting, `into` is empty.
+    fn neighbours_above(&self, v: VertexId, into: &mut Vec<VertexId>) -> Result<(), NoMemory>
+        ensures ok { OnOk result (into.new.items ≡ neighbours_above (mesh self.now) v) }
         ensures err { OnErr result (into.new.items ≡ []) };
 
     /// Sets `into` to the faces near the extent, by rising id: those whose boxes, around the corners where they stand in

@@ -1,9 +1,10 @@
-use Rattle.std.proofs.Common.{◌≡◌, ◌++◌, Some, append_assoc, append-nil, ap, refl, sym, ◌∙◌, arith}
+use Rattle.std.proofs.Common.{map as map_list, ◌≡◌, ◌++◌, Some, append_assoc, append-nil, ap, refl, sym, ◌∙◌, arith}
 use Rattle.std.specs.List.{flat_map}
 use Rattle.std.specs.FinMap as map
 use Rattle.mesh_base.specs.Sides.{above}
+use Rattle.mesh_base.specs.Pairs.{neighbours_above}
 use Rattle.mesh_base.proofs.WalkSteps.{walk-start, above-step, above-end}
-use Rattle.mesh_base.proofs.EdgesFrom.{edges_from, edges_by_ends}
+use Rattle.mesh_base.proofs.NeighboursAbove.{edges_from, edges_by_ends}
 use Rattle.mesh_base.proofs.edges.edges_in_order.Goals as goal
 
 pub loop-v-init : goal.loop-v-init
@@ -25,9 +26,9 @@ loop-v-preserved g c =
     let v = c.v.inside.0 in
     let found = c.loop-v.found.items in
     let rest = above-step m.points c.loop-v.last v (sym c.in-Some.ensures ∙ ap Some (sym c.v.view_is)) in
-    let row : c.as_slice.result.now ≡ edges_from m v = c.as_slice.ensures.value ∙ c.in_ok-set_edges_from.ensures refl ∙ ap (edges_from m) (sym c.v.view_is) in
+    let row : c.as_slice.result.now ≡ neighbours_above m v = c.as_slice.ensures.value ∙ c.in_ok-neighbours_above.ensures.ok ∙ ap (neighbours_above m) (sym c.v.view_is) in
     let tail = flat_map (edges_from m) (above v (map.keys m.points)) in
-    ap (λ xs. xs ++ tail) (c.in_ok-extend_from_slice.ensures.items ∙ ap (λ xs. found ++ xs) row)
+    ap (λ xs. xs ++ tail) (c.in_ok-put_edges.ensures refl ∙ ap (λ u. found ++ map_list (λ w. (u, w)) c.as_slice.result.now) (sym c.v.view_is) ∙ ap (λ ids. found ++ map_list (λ w. (v, w)) ids) row)
     ∙ append_assoc found (edges_from m v) tail
     ∙ ap (λ ids. found ++ flat_map (edges_from m) ids) (sym rest) ∙ c.loop-v.invariant
 

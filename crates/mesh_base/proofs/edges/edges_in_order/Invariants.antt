@@ -3,7 +3,7 @@ use Rattle.std.specs.List.{flat_map}
 use Rattle.std.specs.FinMap as map
 use Rattle.mesh_base.specs.Sides.{above}
 use Rattle.mesh_base.specs.Pairs.{edges}
-use Rattle.mesh_base.proofs.EdgesFrom.{edges_from}
+use Rattle.mesh_base.proofs.NeighboursAbove.{edges_from}
 use Rattle.mesh_base.proofs.edges.edges_in_order.Given as goal
 
 -- the edges found and those from the vertices above the last are all of them
