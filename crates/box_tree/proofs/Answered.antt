@@ -1,5 +1,5 @@
 -- What a question finds in the map that the entries make.
-use Rattle.std.proofs.Common.{◌≡◌, ◌∙◌, ℕ, Bool, true, false, cond, ◌&&◌, nat_eq, List, [], ◌∷◌, ◌++◌, length, reverse, Option, Some, None, refl, sym, ap, subst, T, ◌≤◌, arith}
+use Rattle.std.proofs.Common.{⊎_elim, ◌<◌, ◌≡◌, ◌∙◌, ℕ, Bool, true, false, cond, ◌&&◌, nat_eq, List, [], ◌∷◌, ◌++◌, length, reverse, Option, Some, None, refl, sym, ap, subst, T, ◌≤◌, arith}
 use Rattle.std.specs.Ordering.{nat_cmp, is_lt}
 use Rattle.std.specs.Cmp.{nat_eq_equiv, unsigned_tied}
 use Rattle.std.specs.List.{AllByRecursion, filter, IsDistinct}
@@ -11,7 +11,8 @@ use Rattle.std.specs.FinMap.{get-entries, entries_sorted}
 use Rattle.std.specs.FinMap.Entries.{is_sorted, below_all}
 use Rattle.std.proofs.lemmas.Map.Keys.{IsDistinct-cons}
 use Rattle.std.proofs.lemmas.Map.Made.{is_some-lookup, IsDistinct-keys_filter, length-from_same_keys}
-use Rattle.std.proofs.lemmas.Map.Entries.{option_filter, lookup-filter-values}
+use Rattle.std.proofs.lemmas.Bool.{and_parts, cases_Bool, false≢true}
+use Rattle.std.proofs.lemmas.Map.Entries.{option_filter, lookup-filter-values, length-keys_of}
 use Rattle.grid_base.specs.declared.Extent.{Extent}
 use Rattle.grid_base.specs.Extents.{overlaps}
 use Rattle.cell_grid.specs.Filed.{has}
@@ -19,6 +20,8 @@ use Rattle.cell_grid.proofs.Listed.{find_is_lookup, get_made, left_true, right_t
 use Rattle.box_tree.specs.declared.labelled_box.LabelledBox.{LabelledBox}
 use Rattle.box_tree.specs.declared.question.Question.{Question}
 use Rattle.box_tree.specs.declared.node.Node.{Node}
+use Rattle.box_tree.specs.Found.{AreNear, entries_found}
+use Rattle.box_tree.specs.Labels.{is_apart}
 use Rattle.box_tree.specs.Nodes.{entries, finds, items_found}
 use Rattle.box_tree.specs.Overlapping.{LabelledBoxes, overlaps_apart, overlapping, overlapping_apart}
 
@@ -118,3 +121,43 @@ added_alone ask at its ns read old xs added none same nodes =
 -- each box is apart from 0
 pub apart_from_none : (m : LabelledBoxes) (at : Extent) → overlapping_apart m at 0 0 ≡ overlapping m at
 apart_from_none m at = λ i. keys_of (filter (λ e. and_all (overlaps e.1.at at) i) (map.entries m))
+
+-- ---- the boxes that are found, beside their places
+-- what is found where no label is named is near
+pub near_is : (at : Extent) (es found : List (ℕ × LabelledBox)) → IsDistinct nat_eq (keys_of es) → found ≡ entries_found (record { at = at; a = 0; b = 0 }) es → AreNear (map.from_entries es) at found
+near_is at es found once is = subst (AreNear (map.from_entries es) at) (sym (is ∙ (λ i. filter (λ e. and_all (overlaps e.1.at at) i) es))) (record {
+  each = λ i. lookup-filter-values nat_eq_equiv (λ (e : LabelledBox). overlaps e.at at) i es once ∙ ap (option_filter (λ (e : LabelledBox). overlaps e.at at)) (sym (get_made es i));
+  once = IsDistinct-keys_filter nat_eq (λ e. overlaps e.1.at at) es once;
+})
+
+-- they are as many as the answer has
+pub near_many : (at : Extent) (es old : List (ℕ × LabelledBox)) (most : ℕ) → IsDistinct nat_eq (keys_of es) → old ≡ []
+    → most < length (old ++ entries_found (record { at = at; a = 0; b = 0 }) es) → most < length (overlapping (map.from_entries es) at)
+near_many at es old most once none less =
+    let q : Question = record { at = at; a = 0; b = 0 } in
+    let same = ap (λ xs. length (xs ++ entries_found q es)) none ∙ sym (length-keys_of (entries_found q es)) ∙ as_many q es once ∙ ap length (apart_from_none (map.from_entries es) at) in
+    subst (λ n. most < n) same less
+
+-- those of them that are apart from two labels and have a common point with a box that has fewer points, put in order, are the answer for that box
+pub picked_is : (m : LabelledBoxes) (asked at : Extent) (a b : ℕ) (found : List (ℕ × LabelledBox)) (xs : List ℕ) → AreNear m asked found → ((e : LabelledBox) → overlaps e.at at ≡ true → overlaps e.at asked ≡ true)
+    → IsStrictlySortedBy nat_cmp xs → ((i : ℕ) → has i xs ≡ has i (keys_of (filter (λ e. overlaps_apart at a b e.1) found))) → xs ≡ overlapping_apart m at a b
+picked_is m asked at a b found xs near up rises same =
+    same_rising xs (filter (λ e. overlaps_apart at a b e.1) (map.entries m)) rises (sorted-filter (λ e. overlaps_apart at a b e.1) (map.entries m) (entries_sorted m))
+    (λ i. same i ∙ has-passing (overlaps_apart at a b) found i near.once
+    ∙ ap (λ o. option_map_or (overlaps_apart at a b) o false) (near.each i)
+    ∙ passes (map.get m i)
+    ∙ sym (has-answer m at a b i))
+  where
+    none_else : (e : LabelledBox) → overlaps e.at asked ≡ false → overlaps_apart at a b e ≡ false
+    none_else e off = ⊎_elim
+        (λ yes. absurd (false≢true (sym off ∙ up e (and_parts (overlaps e.at at) (is_apart e.labels a b) yes).0)))
+        (λ no'. no')
+        (cases_Bool (overlaps_apart at a b e))
+
+    by_test : (e : LabelledBox) (c : Bool) → overlaps e.at asked ≡ c → option_map_or (overlaps_apart at a b) (cond c (Some e) None) false ≡ overlaps_apart at a b e
+    by_test e true h = refl
+    by_test e false h = sym (none_else e h)
+
+    passes : (o : Option LabelledBox) → option_map_or (overlaps_apart at a b) (option_filter (λ e. overlaps e.at asked) o) false ≡ option_map_or (overlaps_apart at a b) o false
+    passes None = refl
+    passes (Some e) = by_test e (overlaps e.at asked) refl

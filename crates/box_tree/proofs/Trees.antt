@@ -12,6 +12,7 @@ use Rattle.box_tree.specs.Labels.{is_apart}
 use Rattle.box_tree.proofs.Labelled.{still_apart}
 use Rattle.grid_base.specs.Extents.{overlaps}
 use Rattle.box_tree.specs.declared.node.Node.{Node}
+use Rattle.box_tree.specs.Found.{entries_found}
 use Rattle.box_tree.specs.Nodes.{Has, AllIn, IsTree, entries, finds, items_found}
 use Rattle.cell_grid.proofs.Shared.{overlap_common}
 
@@ -90,6 +91,29 @@ module _ (q : Question) where
   items_found-skip e (suc b) [] miss h = refl
   items_found-skip e (suc b) (n ∷ ns) miss h = items_found-missed n ns (missed q e n.bound h.0 miss) ∙ items_found-skip e b ns miss h.1
 
+-- ---- the same with the boxes
+module _ (q : Question) where
+  pub found-inner : (n : Node) (ns : List Node) → nat_eq n.below 0 ≡ false → entries_found q (entries (n ∷ ns)) ≡ entries_found q (entries ns)
+  found-inner n ns h = ap (λ (b : Bool). entries_found q (cond b ((n.item, n.bound) ∷ entries ns) (entries ns))) h
+
+  found-entry : (i : ℕ) (e : LabelledBox) (es : List (ℕ × LabelledBox)) (b : Bool) → finds q e ≡ b → entries_found q ((i, e) ∷ es) ≡ cond b ((i, e) ∷ entries_found q es) (entries_found q es)
+  found-entry i e es b h = ap (λ (b : Bool). cond b ((i, e) ∷ filter (λ e. finds q e.1) es) (filter (λ e. finds q e.1) es)) h
+
+  pub found-met : (n : Node) (ns : List Node) → nat_eq n.below 0 ≡ true → finds q n.bound ≡ true → entries_found q (entries (n ∷ ns)) ≡ (n.item, n.bound) ∷ entries_found q (entries ns)
+  found-met n ns h met = ap (λ (b : Bool). entries_found q (cond b ((n.item, n.bound) ∷ entries ns) (entries ns))) h ∙ found-entry n.item n.bound (entries ns) true met
+
+  not_found : (b : Bool) (n : Node) (ns : List Node) → finds q n.bound ≡ false → entries_found q (cond b ((n.item, n.bound) ∷ entries ns) (entries ns)) ≡ entries_found q (entries ns)
+  not_found true n ns miss = found-entry n.item n.bound (entries ns) false miss
+  not_found false n ns miss = refl
+
+  found-missed : (n : Node) (ns : List Node) → finds q n.bound ≡ false → entries_found q (entries (n ∷ ns)) ≡ entries_found q (entries ns)
+  found-missed n ns miss = not_found (nat_eq n.below 0) n ns miss
+
+  found-skip : (e : LabelledBox) (b : ℕ) (ns : List Node) → finds q e ≡ false → AllIn e (take b ns) → entries_found q (entries ns) ≡ entries_found q (entries (drop b ns))
+  found-skip e zero ns miss h = refl
+  found-skip e (suc b) [] miss h = refl
+  found-skip e (suc b) (n ∷ ns) miss h = found-missed n ns (missed q e n.bound h.0 miss) ∙ found-skip e b ns miss h.1
+
 -- ---- one step from the end
 module _ (ns : List Node) (k i : ℕ) (n : Node) (one : k ≡ i + 1) (inside : i < length ns) (is : n ≡ get_or ns i n) where
   pub read_last : reverse (take k ns) ≡ n ∷ reverse (take i ns)
@@ -117,6 +141,13 @@ module _ (ns : List Node) (k i : ℕ) (n : Node) (one : k ≡ i + 1) (inside : i
         ∙ items_found-missed q n (reverse (take i ns)) miss
         ∙ items_found-skip q n.bound n.below (reverse (take i ns)) miss read_tree.1.0
         ∙ ap (λ r. items_found q (entries r)) (sym read_rest)
+
+    pub skip_found : (q : Question) → finds q n.bound ≡ false → entries_found q (entries (reverse (take k ns))) ≡ entries_found q (entries (reverse (take (i - n.below) ns)))
+    skip_found q miss =
+        ap (λ r. entries_found q (entries r)) read_last
+        ∙ found-missed q n (reverse (take i ns)) miss
+        ∙ found-skip q n.bound n.below (reverse (take i ns)) miss read_tree.1.0
+        ∙ ap (λ r. entries_found q (entries r)) (sym read_rest)
 
     pub hull_step : (from : ℕ) (f : LabelledBox) → from < k → Has f n.bound → AllIn f (take (i - n.below - from) (reverse (take (i - n.below) ns))) → AllIn f (take (k - from) (reverse (take k ns)))
     hull_step from f lt has h =

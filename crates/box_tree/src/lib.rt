@@ -1,6 +1,7 @@
 //! Boxes by their places in a list, in a tree of boxes that finds those near a box.
 #![tactic(auto)]
 
+mod collection;
 mod construction;
 mod crowds;
 mod curve_order;

@@ -4,7 +4,9 @@ ghost use Rattle.std.specs.Ordering.{nat_cmp};
 ghost use Rattle.std.specs.FinMap as map;
 ghost use Rattle.cell_grid.specs.Filed.{has};
 ghost use Rattle.box_tree.specs.Overlapping.{overlapping, overlapping_apart};
+ghost use Rattle.box_tree.specs.Found.{AreNear};
 
+use crate::collection::collect_up_to;
 use crate::construction::grow;
 use crate::curve_order::places_along_curve;
 use crate::traversal::{walk, walk_up_to};
@@ -115,5 +117,20 @@ impl BoxTree {
                 Err(e)
             }
         }
+    }
+
+    /// Sets the list to the boxes that have a common point with this one, each beside its place, in any order, and answers
+    /// true, unless they are more than so many: then it answers false, early.
+    pub fn near_up_to(
+        &self,
+        at: SmallBox,
+        most: usize,
+        into: &mut Vec<(u64, LabelledBox)>,
+    ) -> Result<bool, NoMemory>
+        ensures near { IfOk result (λ all. all ≡ true → AreNear self.now at into.new.items) }
+        ensures more { IfOk result (λ all. all ≡ false → most < length (overlapping self.now at)) }
+    {
+        into.clear();
+        collect_up_to(&self.nodes, &Question { at, a: 0, b: 0 }, most, into)
     }
 }

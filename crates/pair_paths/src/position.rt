@@ -68,11 +68,11 @@ impl Position {
 }
 
 // The difference of two positions' components.
-fn difference(a: i32, b: i32) -> i64
+fn difference(a: i32, b: i32) -> i32
     requires a_fits { unsigned_abs a ≤ HALF_MAX }
     requires b_fits { unsigned_abs b ≤ HALF_MAX }
     ensures value { result ≡ a -ℤ b }
     ensures within { unsigned_abs result ≤ EXTENT_MAX }
 {
-    i64::from(a) - i64::from(b)
+    a - b
 }
