@@ -18,3 +18,4 @@ mod touched;
 
 pub use edit_base::{Move, Touch};
 pub use first_pair::{check, check_still};
+pub use reach::reach_of;

@@ -8,45 +8,54 @@ ghost use Rattle.edit_check.specs.Reach.{HasVertex, HasFace, Reaches, ReachesAt,
 ghost use Rattle.edit_check.specs.Reach.{ReachesTouched, Widens, old_ones};
 
 use crate::moves::is_moved;
+use crate::path_boxes::{box_of_path, united};
+use box_tree::SmallBox;
 use edit_base::Move;
 use grid_base::{Extent, NoMemory};
 use mesh_base::{Corners, FaceId, FaceIds, Surface, VertexId, live_faces_above};
-use pair_paths::{HasBounds, Paths};
+use pair_paths::Paths;
 use pair_scan::MovedVertices;
 use std::alloc::Global;
 
 /// A box that has the vertex where it stands, and all its way. One that no move names stands where it goes.
-fn box_of_vertex<S: Surface>(paths: &MovedVertices<S, &[Move]>, v: VertexId) -> Extent
+fn box_of_vertex<S: Surface>(paths: &MovedVertices<S, &[Move]>, v: VertexId) -> SmallBox
     ensures { HasVertex (S.mesh paths.now.mesh.now) paths.now.moves.now v result }
 {
-    let way = paths.path_of(v).bounds();
+    let way = box_of_path(&paths.path_of(v));
     if is_moved(paths.moves, v) {
         let none: &[Move] = &[];
         let standing = MovedVertices {
             mesh: paths.mesh,
             moves: none,
         };
-        way.united(&standing.path_of(v).bounds())
+        united(&way, &box_of_path(&standing.path_of(v)))
     } else {
         way
     }
 }
 
 /// A box that has the face where it stands, and all its way.
-fn box_of<S: Surface>(paths: &MovedVertices<S, &[Move]>, face: FaceId, corners: &Corners) -> Extent
+fn box_of<S: Surface>(
+    paths: &MovedVertices<S, &[Move]>,
+    face: FaceId,
+    corners: &Corners,
+) -> SmallBox
     ensures { HasFace (S.mesh paths.now.mesh.now) paths.now.moves.now (face, corners.now) result }
 {
-    let two = box_of_vertex(paths, corners.first).united(&box_of_vertex(paths, corners.second));
-    two.united(&box_of_vertex(paths, corners.third))
+    let two = united(
+        &box_of_vertex(paths, corners.first),
+        &box_of_vertex(paths, corners.second),
+    );
+    united(&two, &box_of_vertex(paths, corners.third))
 }
 
 /// The box, or the other alone where there is none, so that it has the other too.
-fn widened(reach: Option<Extent>, by: &Extent) -> Extent
+fn widened(reach: Option<SmallBox>, by: &SmallBox) -> SmallBox
     ensures has { (p : Triple) → IsIn by.now p → IsIn result p }
     ensures keeps { Widens reach (Some result) }
 {
     match reach {
-        Some(old) => old.united(by),
+        Some(old) => united(&old, by),
         None => *by,
     }
 }
@@ -55,8 +64,8 @@ fn widened(reach: Option<Extent>, by: &Extent) -> Extent
 fn reach_face<S: Surface>(
     paths: &MovedVertices<S, &[Move]>,
     f: FaceId,
-    reach: Option<Extent>,
-) -> Option<Extent>
+    reach: Option<SmallBox>,
+) -> Option<SmallBox>
     ensures reaches { Reaches (S.mesh paths.now.mesh.now) paths.now.moves.now result f }
     ensures keeps { Widens reach result }
 {
@@ -70,8 +79,8 @@ fn reach_face<S: Surface>(
 fn reach_faces<S: Surface>(
     paths: &MovedVertices<S, &[Move]>,
     faces: &[FaceId],
-    reach: Option<Extent>,
-) -> Option<Extent>
+    reach: Option<SmallBox>,
+) -> Option<SmallBox>
     ensures reaches { let m = S.mesh paths.now.mesh.now in
         All (Reaches m paths.now.moves.now result) faces.now }
     ensures keeps { Widens reach result }
@@ -96,8 +105,8 @@ fn reach_at<S: Surface>(
     fresh_from: u32,
     v: VertexId,
     at: &mut Vec<FaceId>,
-    reach: Option<Extent>,
-) -> Result<Option<Extent>, NoMemory>
+    reach: Option<SmallBox>,
+) -> Result<Option<SmallBox>, NoMemory>
     ensures reaches { let m = S.mesh paths.now.mesh.now in
         IfOk result (λ wide. ReachesAt m paths.now.moves.now fresh_from wide v) }
     ensures keeps { IfOk result (λ wide. Widens reach wide) }
@@ -112,8 +121,8 @@ fn reach_moves<S: Surface>(
     paths: &MovedVertices<S, &[Move]>,
     fresh_from: u32,
     at: &mut Vec<FaceId>,
-    reach: Option<Extent>,
-) -> Result<Option<Extent>, NoMemory>
+    reach: Option<SmallBox>,
+) -> Result<Option<SmallBox>, NoMemory>
     ensures reaches { let m = S.mesh paths.now.mesh.now in
         IfOk result (λ wide. ReachesMoves m paths.now.moves.now fresh_from wide) }
     ensures keeps { IfOk result (λ wide. Widens reach wide) }
@@ -131,8 +140,8 @@ fn reach_vertex<S: Surface>(
     fresh_from: u32,
     v: VertexId,
     at: &mut Vec<FaceId>,
-    reach: Option<Extent>,
-) -> Result<Option<Extent>, NoMemory>
+    reach: Option<SmallBox>,
+) -> Result<Option<SmallBox>, NoMemory>
     requires { ReachesMoves (S.mesh paths.now.mesh.now) paths.now.moves.now fresh_from reach }
     ensures reaches { let m = S.mesh paths.now.mesh.now in
         IfOk result (λ wide. ReachesAt m paths.now.moves.now fresh_from wide v) }
@@ -150,8 +159,8 @@ fn reach_vertices<S: Surface>(
     fresh_from: u32,
     vertices: &[VertexId],
     at: &mut Vec<FaceId>,
-    reach: Option<Extent>,
-) -> Result<Option<Extent>, NoMemory>
+    reach: Option<SmallBox>,
+) -> Result<Option<SmallBox>, NoMemory>
     requires { ReachesMoves (S.mesh paths.now.mesh.now) paths.now.moves.now fresh_from reach }
     ensures reaches { let m = S.mesh paths.now.mesh.now in
         let moves = paths.now.moves.now in
@@ -174,8 +183,8 @@ fn reach_old<S: Surface>(
     paths: &MovedVertices<S, &[Move]>,
     fresh_from: u32,
     vertices: &[VertexId],
-    reach: Option<Extent>,
-) -> Result<Option<Extent>, NoMemory>
+    reach: Option<SmallBox>,
+) -> Result<Option<SmallBox>, NoMemory>
     ensures moves { let m = S.mesh paths.now.mesh.now in
         IfOk result (λ wide. ReachesMoves m paths.now.moves.now fresh_from wide) }
     ensures vertices { let m = S.mesh paths.now.mesh.now in
@@ -196,9 +205,21 @@ fn fresh_faces<S: Surface>(alloc: Global, mesh: &S, fresh_from: u32) -> Result<F
     live_faces_above(alloc, mesh, fresh_from.saturating_sub(1))
 }
 
-/// A box that has each touched face; None, where there is none. New faces are taken by their ids, and so old ones alone at
-/// the vertices.
-pub(crate) fn reach_of<S: Surface>(
+/// The box as an extent, where there is one.
+fn extent_of(reach: Option<SmallBox>) -> Option<Extent>
+    ensures { result ≡ reach }
+{
+    match reach {
+        Some(all) => Some(all.extent()),
+        None => None,
+    }
+}
+
+/// A box that has each touched face, where it stands and all its way; None only where no face is touched. A face is touched where
+/// its id is `fresh_from` or greater, or a corner of it moves or is one of `together`. Refuses only where there is no memory.
+///
+/// New faces are taken by their ids, and so old ones alone at the vertices.
+pub fn reach_of<S: Surface>(
     alloc: Global,
     paths: &MovedVertices<S, &[Move]>,
     together: &[VertexId],
@@ -210,5 +231,5 @@ pub(crate) fn reach_of<S: Surface>(
     let fresh = fresh_faces(alloc, paths.mesh, fresh_from)?;
     let new = reach_faces(paths, fresh.as_slice(), None);
     let all = reach_old(alloc, paths, fresh_from, together, new)?;
-    Ok(all)
+    Ok(extent_of(all))
 }

@@ -1,4 +1,3 @@
-use Rattle.std.proofs.Common.{sym, subst}
 use Rattle.pair_paths.specs.Bounds.{HoldsFace}
 use Rattle.edit_check.specs.SideBoxes.{HoldSides}
 use Rattle.edit_check.proofs.Reached.{path_in}
@@ -8,21 +7,16 @@ pub invariant_of-result : goal.invariant_of-result
 invariant_of-result c =
     let f = c.args.face in
     let whole : HoldsFace f c.united.result = record {
-      c = path_in f.c c.united-first.result c.united.result c.united.ensures.first (path_in f.c c.bounds-c.result c.united-first.result c.united-first.ensures.first c.bounds-c.ensures);
-      d = path_in f.d c.united-first.result c.united.result c.united.ensures.first (path_in f.d c.bounds-d.result c.united-first.result c.united-first.ensures.second c.bounds-d.ensures);
-      e = path_in f.e c.bounds-e.result c.united.result c.united.ensures.second c.bounds-e.ensures;
+      c = path_in f.c c.united-first.result c.united.result c.united.ensures.first (path_in f.c c.box_of_path-c.result c.united-first.result c.united-first.ensures.first c.box_of_path-c.ensures);
+      d = path_in f.d c.united-first.result c.united.result c.united.ensures.first (path_in f.d c.box_of_path-d.result c.united-first.result c.united-first.ensures.second c.box_of_path-d.ensures);
+      e = path_in f.e c.box_of_path-e.result c.united.result c.united.ensures.second c.box_of_path-e.ensures;
     } in
     let sides : HoldSides f c.united-first.result c.united-2.result c.united-3.result = record {
-      first_c = path_in f.c c.bounds-c.result c.united-first.result c.united-first.ensures.first c.bounds-c.ensures;
-      first_d = path_in f.d c.bounds-d.result c.united-first.result c.united-first.ensures.second c.bounds-d.ensures;
-      second_d = path_in f.d c.bounds-d.result c.united-2.result c.united-2.ensures.first c.bounds-d.ensures;
-      second_e = path_in f.e c.bounds-e.result c.united-2.result c.united-2.ensures.second c.bounds-e.ensures;
-      third_e = path_in f.e c.bounds-e.result c.united-3.result c.united-3.ensures.first c.bounds-e.ensures;
-      third_c = path_in f.c c.bounds-c.result c.united-3.result c.united-3.ensures.second c.bounds-c.ensures;
+      first_c = path_in f.c c.box_of_path-c.result c.united-first.result c.united-first.ensures.first c.box_of_path-c.ensures;
+      first_d = path_in f.d c.box_of_path-d.result c.united-first.result c.united-first.ensures.second c.box_of_path-d.ensures;
+      second_d = path_in f.d c.box_of_path-d.result c.united-2.result c.united-2.ensures.first c.box_of_path-d.ensures;
+      second_e = path_in f.e c.box_of_path-e.result c.united-2.result c.united-2.ensures.second c.box_of_path-e.ensures;
+      third_e = path_in f.e c.box_of_path-e.result c.united-3.result c.united-3.ensures.first c.box_of_path-e.ensures;
+      third_c = path_in f.c c.box_of_path-c.result c.united-3.result c.united-3.ensures.second c.box_of_path-c.ensures;
     } in
-    record {
-      held = subst (HoldsFace f) (sym c.of.ensures) whole;
-      sides = subst (λ b. HoldSides f b c.of-3.result c.of-4.result) (sym c.of-2.ensures)
-          (subst (λ b. HoldSides f c.united-first.result b c.of-4.result) (sym c.of-3.ensures)
-          (subst (λ b. HoldSides f c.united-first.result c.united-2.result b) (sym c.of-4.ensures) sides));
-    }
+    record { held = whole; sides = sides }

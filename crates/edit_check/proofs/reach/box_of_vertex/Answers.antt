@@ -12,9 +12,9 @@ returns-else-is_moved g c =
     let m = g.S.Surface.mesh c.args.paths.now.mesh.now in
     let moves = c.args.paths.now.moves.now in
     let v = c.args.v in
-    let box = c.bounds-way.result in
+    let box = c.box_of_path-way.result in
     let stays : move_of moves v ≡ None = none (move_of moves v) (sym c.is_moved.ensures ∙ c.if-is_moved.false) in
-    let held : HoldsPath c.path_of.result box = record { start = c.bounds-way.ensures.start; end = c.bounds-way.ensures.end } in
+    let held : HoldsPath c.path_of.result box = c.box_of_path-way.ensures in
     let way : HoldsPath (path_along (motion_by m moves) v) box = subst (λ p. HoldsPath p box) c.path_of.ensures held in
     record {
       way = way;
