@@ -17,6 +17,19 @@ pub enum LineKind {
     Other,
 }
 
+/// What may be amiss in the surface of a mesh.
+#[derive(Clone, Copy, Debug, PartialEq, Eq)]
+pub struct SurfaceFacts {
+    /// Whether the mesh has no vertex.
+    pub is_empty: bool,
+    /// Whether the volume that its faces enclose is below zero.
+    pub is_inside_out: bool,
+    /// How many edges are crowded: more than one face runs along them one way.
+    pub crowded: u64,
+    /// How many faces have an opposite: a face of the same corners the other way round.
+    pub opposite: u64,
+}
+
 /// How the directives of a run ended, all of which were done.
 #[derive(Clone, Copy, Debug, PartialEq, Eq)]
 pub struct Ending {
@@ -26,6 +39,8 @@ pub struct Ending {
     pub is_unsaved: bool,
     /// Whether shifts are requested that no step has taken.
     pub asks_in_vain: bool,
+    /// What may be amiss in the mesh that was stored last, where it was still at hand and there was memory to look at it.
+    pub surface: Option<SurfaceFacts>,
 }
 
 /// What a run lets those know who watch it, beside the bytes that it writes. Nothing that is written, stored or answered depends on who

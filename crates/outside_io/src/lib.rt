@@ -24,7 +24,7 @@ mod told;
 mod trouble;
 
 pub use desk::{Desk, FetchFault, StoreFault};
-pub use fact::{Ending, Fact, LineKind};
+pub use fact::{Ending, Fact, LineKind, SurfaceFacts};
 pub use locks::TryLock;
 pub use memory_desk::MemoryDesk;
 pub use memory_sink::MemorySink;
