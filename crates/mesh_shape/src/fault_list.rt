@@ -1,5 +1,5 @@
 //! Faults that are put at the end of a list, of which the first so many are kept.
-ghost use Rattle.std.specs.Prelude.{◌≡◌, ◌+◌, length, not, IfOk};
+ghost use Rattle.std.specs.Prelude.{◌≡◌, ◌+◌, IfOk};
 ghost use Rattle.mesh_base.specs.Changes.{corners_of};
 ghost use Rattle.mesh_shape.specs.Shape.{is_vertex, repeats};
 ghost use Rattle.mesh_shape.specs.ShapeFaults.{one_if, no_vertices_in, no_vertices_from, all_repeated_from, limit_faults};
