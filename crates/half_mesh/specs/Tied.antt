@@ -1,10 +1,12 @@
 -- How the half-edges of a mesh and its faces are tied.
-use Rattle.std.specs.Prelude.{◌≡◌, ◌≢◌, ℕ, ◌/◌, min, ◌==◌, cond, List, [], ◌∷◌, ◌++◌, Some, None, IsSome}
+use Rattle.std.specs.Prelude.{◌≡◌, ◌≢◌, ℕ, ◌/◌, min, ◌==◌, cond, Bool, List, [], ◌∷◌, ◌++◌, Some, None, IsSome}
 use Rattle.std.specs.Ordering.{nat_cmp}
+use Rattle.std.specs.List.{list_any}
 use Rattle.std.specs.FinMap as finite
 use Rattle.mesh_base.specs.declared.ids.Corners.{Corners}
 use Rattle.mesh_base.specs.declared.limits.Limits.{Limits}
-use Rattle.mesh_base.specs.Mesh.{Mesh}
+use Rattle.mesh_base.specs.Mesh.{Mesh, AreDifferent}
+use Rattle.mesh_base.specs.SideList.{neighbours_in}
 use Rattle.half_mesh.specs.Vertices.{vertices_in, points_in, solid_in}
 use Rattle.mesh_base.specs.Sides.{has_corner}
 use Rattle.half_mesh.specs.Fans.{Spoke, Fans, Side, Sides, Woven, side_at, spokes_at, put_spoke, without}
@@ -55,6 +57,16 @@ woven_mesh woven keys limits next_vertex next_face = record {
   next_face = next_face;
   limits = limits;
 }
+
+-- whether two vertices are neighbours in some of these faces
+abbrev pub are_beside : Sides → Keys → List ℕ → ℕ → ℕ → Bool
+are_beside sides keys faces v w =
+    list_any (λ f. neighbours_in (finite.get (faces_in sides keys) f) v w) faces
+
+-- no face has a corner twice
+abbrev pub HaveDifferentCorners : Sides → Keys → Type 0
+HaveDifferentCorners sides keys =
+    (f key : ℕ) → finite.get keys f ≡ Some key → AreDifferent (corners_at sides key)
 
 -- what is buried
 abbrev pub buried_in : Ground → Stock ℕ → Buried

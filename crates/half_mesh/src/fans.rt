@@ -1,5 +1,5 @@
 //! The half-edges that leave each vertex.
-ghost use Rattle.std.specs.Prelude.{◌≡◌, ◌≢◌, None, ◌≤◌, ◌<◌, ◌+◌, ◌-◌, ◌^◌, ℕ, Some, IfOk, OnOk, OnErr, IsSome, slice_get, length, [], map as map_list, reverse};
+ghost use Rattle.std.specs.Prelude.{◌≡◌, ◌≢◌, None, ◌≤◌, ◌<◌, ◌+◌, ◌-◌, ◌^◌, ℕ, Some, IfOk, IsOk, OnOk, OnErr, IsSome, slice_get, length, [], map as map_list, reverse};
 ghost use Rattle.std.specs.Option.{option_map};
 ghost use Rattle.std.specs.FinMap as map;
 ghost use Rattle.mesh_base.specs.Sides.{above};
@@ -8,13 +8,15 @@ ghost use Rattle.half_mesh.specs.FanChanges.{with_fans, with_side, ChangesFan, K
 ghost use Rattle.half_mesh.specs.Walks.{walk, spoke_of, side_of, key_before, last_newer, IsLinkedIn, Joins, Resets};
 ghost use Rattle.slab.specs.Slab.{get, slab_len};
 ghost use Rattle.half_mesh.specs.Across.{below};
-ghost use Rattle.half_mesh.specs.Tied.{origin_at, to_at, next_at};
+ghost use Rattle.half_mesh.specs.Tied.{origin_at, to_at, next_at, are_beside, HaveDifferentCorners};
+ghost use Rattle.mesh_base.specs.SideList.{AddsIdsAbove};
 
 use crate::halves::Half;
 use crate::row::{Row, Vertex};
+use crate::tables::put_corners_above;
 use grid_base::NoMemory;
 use id_table::Rows;
-use mesh_base::FaceId;
+use mesh_base::{FaceId, VertexId};
 use slab::Slab;
 use std::alloc::Global;
 use std::marker::Model;
@@ -372,6 +374,24 @@ impl Fans {
             }
         }
     }
+
+    /// Puts the corners above `v` of the faces at `v` at the end of the list. The keys are those of the first sides of the live faces.
+    pub(crate) fn put_neighbours(
+        &self,
+        keys: &Rows<usize>,
+        v: VertexId,
+        into: &mut Vec<VertexId>,
+    ) -> Result<(), NoMemory>
+        requires { HaveDifferentCorners self.now.woven.sides keys.now.live }
+        ensures { let faces = faces_of (spokes_at self.now.woven.fans v) in
+            IsOk result → AddsIdsAbove v into.old.items into.new.items
+            (are_beside self.now.woven.sides keys.now.live faces v) }
+    {
+        match self.rows.get(v.0) {
+            Some(row) => put_linked(&self.halves, self, keys, row.first, row.count, v, into),
+            None => Ok(()),
+        }
+    }
 }
 
 /// How many of so many half-edges, linked from a key on, run to `v`.
@@ -479,6 +499,34 @@ fn gather(
             into.clear();
             return Err(NoMemory);
         }
+        at = half.after;
+        left -= 1;
+    }
+    Ok(())
+}
+
+/// Puts the corners above `v` of the faces of so many half-edges, linked from a key on, at the end of the list.
+fn put_linked(
+    halves: &Slab<Half>,
+    fans: &Fans,
+    keys: &Rows<usize>,
+    first: usize,
+    count: usize,
+    v: VertexId,
+    into: &mut Vec<VertexId>,
+) -> Result<(), NoMemory>
+    requires { HaveDifferentCorners fans.now.woven.sides keys.now.live }
+    ensures { let faces = faces_of (map_list spoke_of (walk halves.now count first)) in
+        IsOk result → AddsIdsAbove v into.old.items into.new.items
+        (are_beside fans.now.woven.sides keys.now.live faces v) }
+{
+    let mut at = first;
+    let mut left = count;
+    while left > 0 {
+        let Some(half) = halves.get(at).copied() else {
+            return Ok(());
+        };
+        put_corners_above(fans, keys, half.face, v, into)?;
         at = half.after;
         left -= 1;
     }

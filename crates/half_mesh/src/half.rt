@@ -292,6 +292,11 @@ impl Surface for HalfMesh {
         self.now.faces_at(v, into)
     }
 
+    /// Looks at the faces at `v`.
+    fn neighbours_above(&self, v: VertexId, into: &mut Vec<VertexId>) -> Result<(), NoMemory> {
+        self.now.neighbours_above(v, into)
+    }
+
     fn faces_near(&self, at: Extent, into: &mut Vec<FaceId>) -> Result<(), NoMemory> {
         faces_near_of_all(&self.now, &at, into)
     }

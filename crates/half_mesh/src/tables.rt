@@ -1,6 +1,6 @@
 //! The tables of one mesh.
 ghost use Rattle.grid_base.specs.declared.TheConstants.{VERTICES_MAX, FACES_MAX};
-ghost use Rattle.std.specs.Prelude.{ℕ, length, ◌≤◌, ◌≡◌, ◌<◌, ◌+◌, ◌^◌, IfOk, OnOk, OnErr, slice_get, []};
+ghost use Rattle.std.specs.Prelude.{ℕ, length, ◌≤◌, ◌≡◌, ◌<◌, ◌+◌, ◌^◌, IfOk, IsOk, OnOk, OnErr, slice_get, []};
 ghost use Rattle.std.specs.Option.{option_map};
 ghost use Rattle.std.specs.FinMap as map;
 ghost use Rattle.mesh_base.specs.Mesh.{IsSound, IsLiveVertex, IsLiveFace, AreLive, AreDifferent, is_solid};
@@ -12,14 +12,18 @@ ghost use Rattle.mesh_shape.specs.Shape.{HaveGoodShape};
 ghost use Rattle.half_mesh.specs.Fans.{spokes_at, IsNewest};
 ghost use Rattle.half_mesh.specs.States.{AreApart, none_buried, with_mesh};
 ghost use Rattle.half_mesh.specs.Across.{corner_at, corner_after, side_from, below, across, across_side};
-ghost use Rattle.half_mesh.specs.Tied.{corners_at, HaveFans, HasRing};
+ghost use Rattle.half_mesh.specs.Tied.{corners_at, faces_in, HaveDifferentCorners, HaveFans, HasRing};
+ghost use Rattle.mesh_base.specs.Pairs.{neighbours_above};
+ghost use Rattle.mesh_base.specs.SideList.{neighbours_in, AddsIdsAbove};
 
 use crate::burial::{bury_ring, free_ring};
 use crate::fans::Fans;
 use crate::row::Vertex;
 use grid_base::{FACES_MAX, NoMemory, Point, VERTICES_MAX};
 use id_table::Rows;
-use mesh_base::{Corners, FaceId, FaceTable, Limits, MeshLists, Scale, VertexId};
+use mesh_base::{
+    Corners, FaceId, FaceTable, Limits, MeshLists, Scale, VertexId, put_neighbours, put_rising,
+};
 use std::alloc::Global;
 use std::marker::Model;
 
@@ -314,6 +318,24 @@ impl Tables {
         self.fans.faces(v.0, into)
     }
 
+    pub(crate) fn neighbours_above(
+        &self,
+        v: VertexId,
+        into: &mut Vec<VertexId>,
+    ) -> Result<(), NoMemory>
+        requires { IsSound self.now.state.mesh }
+        ensures ok { OnOk result (into.new.items ≡ neighbours_above self.now.state.mesh v) }
+        ensures err { OnErr result (into.new.items ≡ []) }
+    {
+        into.clear();
+        if let Err(e) = self.fans.put_neighbours(&self.keys, v, into) {
+            into.clear();
+            return Err(e);
+        }
+        put_rising(into);
+        Ok(())
+    }
+
     pub(crate) fn add_vertex(&mut self, p: Point) -> Result<VertexId, NoMemory>
         requires next { self.old.state.mesh.next_vertex + 1 < 2 ^ 32 }
         requires ids { (v : ℕ) → IsLiveVertex self.old.state.mesh v →
@@ -488,4 +510,31 @@ pub(crate) fn corners_from(fans: &Fans, key: usize) -> (u32, u32, u32)
     let first = fans.side(key);
     let second = fans.side(first.next);
     (first.origin, first.to, second.to)
+}
+
+/// Puts the corners of a live face that are above one of them at the end of the list.
+pub(crate) fn put_corners_above(
+    fans: &Fans,
+    keys: &Rows<usize>,
+    f: u32,
+    v: VertexId,
+    into: &mut Vec<VertexId>,
+) -> Result<(), NoMemory>
+    requires { HaveDifferentCorners fans.now.woven.sides keys.now.live }
+    ensures { let face = map.get (faces_in fans.now.woven.sides keys.now.live) f in
+        IsOk result →
+        AddsIdsAbove v into.old.items into.new.items (λ w. neighbours_in face v w) }
+{
+    match keys.get(f) {
+        Some(key) => {
+            let (a, b, c) = corners_from(fans, key);
+            let corners = Corners {
+                first: VertexId(a),
+                second: VertexId(b),
+                third: VertexId(c),
+            };
+            put_neighbours(into, v, corners)
+        }
+        None => Ok(()),
+    }
 }

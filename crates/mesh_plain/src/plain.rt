@@ -4,7 +4,8 @@ ghost use Rattle.mesh_base.specs.Mesh.{IsSound};
 use crate::tables::Tables;
 use grid_base::{Extent, ID_MAX, NoMemory, Point};
 use mesh_base::{
-    AddFault, Corners, FaceId, Limits, Mark, MeshLists, Scale, Surface, VertexId, faces_near_of_all,
+    AddFault, Corners, FaceId, Limits, Mark, MeshLists, Scale, Surface, VertexId,
+    faces_near_of_all, neighbours_above_of_all,
 };
 use std::alloc::Global;
 
@@ -148,6 +149,11 @@ impl Surface for PlainMesh {
     /// Looks at each live face.
     fn faces_at(&self, v: VertexId, into: &mut Vec<FaceId>) -> Result<(), NoMemory> {
         self.now.faces_at(v, into)
+    }
+
+    /// Looks at each live face.
+    fn neighbours_above(&self, v: VertexId, into: &mut Vec<VertexId>) -> Result<(), NoMemory> {
+        neighbours_above_of_all(&self.now, v, into)
     }
 
     fn faces_near(&self, at: Extent, into: &mut Vec<FaceId>) -> Result<(), NoMemory> {
