@@ -19,7 +19,7 @@ use std::alloc::Global;
 // A question looks ahead at most this many edges, and while its box gets at most this many times as long.
 const AHEAD: usize = 16;
 
-const LONGER: u128 = 4;
+const LONGER: u64 = 4;
 
 // Where more faces than these are found near edges, and more than so many an edge, boxes overlap though faces are far from edges.
 const CROWDED: usize = 100_000;
@@ -37,11 +37,11 @@ pub(crate) struct Scan<'a, P: Paths, A: PairTest> {
 }
 
 // The length of a box, along the axis where it is longest.
-fn length(e: &SmallBox) -> u128 {
+fn length(e: &SmallBox) -> u64 {
     let e = e.extent();
-    let x = e.low.x.abs_diff(e.high.x);
-    let y = e.low.y.abs_diff(e.high.y);
-    let z = e.low.z.abs_diff(e.high.z);
+    let x = (e.low.x as i64).abs_diff(e.high.x as i64);
+    let y = (e.low.y as i64).abs_diff(e.high.y as i64);
+    let z = (e.low.z as i64).abs_diff(e.high.z as i64);
     x.max(y).max(z)
 }
 
