@@ -1,27 +1,29 @@
 //! A tree of boxes that keeps the last question.
 ghost use Rattle.std.specs.Prelude.{◌≡◌, ℕ, ◌++◌, IsTrue, IfOk, OnOk, slice_get};
 ghost use Rattle.std.specs.List.{filter};
+ghost use Rattle.std.specs.Map.{keys_of};
 ghost use Rattle.std.specs.FinMap as map;
 ghost use Rattle.grid_base.specs.Ordered.{IsUnder};
-ghost use Rattle.box_tree.specs.Overlapping.{overlapping_apart};
-ghost use Rattle.pair_candidates.specs.Asked.{IsAround, is_near_at};
+ghost use Rattle.box_tree.specs.Overlapping.{overlaps_apart, overlapping_apart};
+ghost use Rattle.pair_candidates.specs.Asked.{IsAround};
 
+use crate::still_faces::rising;
 use box_tree::{BoxTree, LabelledBox, SmallBox};
-use grid_base::{Extent, NoMemory, Wide};
+use grid_base::{NoMemory, Wide};
 use std::alloc::Global;
 use std::marker::Model;
 
 // An answer of more places than these is not kept: to go through it takes longer than to ask anew.
 const MANY: usize = 64;
 
-/// A list of labelled boxes in a tree, the last box that it was asked for, and the places that were answered: they serve
-/// each box that stands in that one. A contract sees it as the tree, which is the map from the places to the boxes.
+/// A list of labelled boxes in a tree, the last box that it was asked for, and the boxes that were answered, beside their
+/// places: they serve each box that stands in that one. A contract sees it as the tree, which is the map from the places to
+/// the boxes.
 #[derive(Drop)]
 pub(crate) struct AskedTree {
-    boxes: Vec<LabelledBox>,
     tree: BoxTree,
-    asked: Option<Extent>,
-    near: Vec<u64>,
+    asked: Option<SmallBox>,
+    near: Vec<(u64, LabelledBox)>,
 }
 
 impl Model for AskedTree {
@@ -40,7 +42,7 @@ impl Model for AskedTree {
 
     ghost view = { λ t. t.tree };
 
-    ghost invariant = { λ t. IsKept t.tree t.boxes.items t.asked t.near.items };
+    ghost invariant = { λ t. IsKept t.tree t.asked t.near.items };
 }
 
 // Whether the one is at or below the other in each component.
@@ -51,37 +53,35 @@ fn is_under(a: Wide, b: Wide) -> bool
 }
 
 // Whether the one box has all of the other.
-fn is_around(outer: &Extent, inner: &Extent) -> bool
+fn is_around(outer: &SmallBox, inner: &SmallBox) -> bool
     ensures { IsTrue result → IsAround outer.now inner.now }
 {
+    let outer = outer.extent();
+    let inner = inner.extent();
     is_under(outer.low, inner.low) && is_under(inner.high, outer.high)
 }
 
-// Whether the box at the place has a common point with this one, and neither of the labels.
-fn is_near_at(boxes: &[LabelledBox], at: &SmallBox, a: u32, b: u32, k: u64) -> bool
-    ensures { result ≡ is_near_at boxes.now at.now a b k }
+// Whether the box has a common point with this one, and neither of the labels.
+fn is_near(e: &LabelledBox, at: &SmallBox, a: u32, b: u32) -> bool
+    ensures { result ≡ overlaps_apart at.now a b e.now }
 {
-    match boxes.get(k as usize) {
-        Some(here) => here.at.overlaps(at) && here.labels.is_apart(a, b),
-        None => false,
-    }
+    e.at.overlaps(at) && e.labels.is_apart(a, b)
 }
 
-// Adds those of the places whose boxes have a common point with this one, and neither of the labels.
+// Adds the places of those boxes that have a common point with this one, and neither of the labels.
 fn pick(
-    boxes: &[LabelledBox],
-    near: &[u64],
+    near: &[(u64, LabelledBox)],
     at: &SmallBox,
     a: u32,
     b: u32,
     into: &mut Vec<u64>,
 ) -> Result<(), NoMemory>
-    ensures { OnOk result
-        (into.new.items ≡ into.old.items ++ filter (is_near_at boxes.now at.now a b) near.now) }
+    ensures { OnOk result (into.new.items
+        ≡ into.old.items ++ keys_of (filter (λ e. overlaps_apart at.now a b e.1) near.now)) }
 {
-    for k in near {
-        if is_near_at(boxes, at, a, b, *k) {
-            into.push(*k)?;
+    for e in near {
+        if is_near(&e.1, at, a, b) {
+            into.push(e.0)?;
         }
     }
     Ok(())
@@ -89,12 +89,11 @@ fn pick(
 
 impl AskedTree {
     /// The tree of these boxes.
-    pub(crate) fn of(alloc: Global, boxes: Vec<LabelledBox>) -> Result<AskedTree, NoMemory>
-        ensures { IfOk result (λ t. (i : ℕ) → map.get t i ≡ slice_get boxes.items i) }
+    pub(crate) fn of(alloc: Global, boxes: &[LabelledBox]) -> Result<AskedTree, NoMemory>
+        ensures { IfOk result (λ t. (i : ℕ) → map.get t i ≡ slice_get boxes.now i) }
     {
-        let tree = BoxTree::of(alloc, &boxes)?;
+        let tree = BoxTree::of(alloc, boxes)?;
         Ok(AskedTree {
-            boxes,
             tree,
             asked: None,
             near: Vec::new(alloc),
@@ -102,7 +101,7 @@ impl AskedTree {
     }
 
     /// Whether the last answer serves this box.
-    pub(crate) fn serves(&self, at: &Extent) -> bool {
+    pub(crate) fn serves(&self, at: &SmallBox) -> bool {
         match &self.asked {
             Some(asked) => is_around(asked, at),
             None => false,
@@ -111,11 +110,11 @@ impl AskedTree {
 
     /// Asks for the boxes that have a common point with this one, and keeps the answer, unless there are many. Answers
     /// whether it is kept.
-    pub(crate) fn ask(&mut self, at: Extent) -> Result<bool, NoMemory>
+    pub(crate) fn ask(&mut self, at: SmallBox) -> Result<bool, NoMemory>
         ensures { self.new ≡ self.old }
     {
         self.asked = None;
-        let kept = self.tree.overlapping_up_to(at, MANY, &mut self.near)?;
+        let kept = self.tree.near_up_to(at, MANY, &mut self.near)?;
         if kept {
             self.asked = Some(at);
         }
@@ -126,7 +125,7 @@ impl AskedTree {
     /// by the last answer, where that serves.
     pub(crate) fn overlapping_apart(
         &self,
-        at: Extent,
+        at: SmallBox,
         a: u32,
         b: u32,
         into: &mut Vec<u64>,
@@ -136,9 +135,11 @@ impl AskedTree {
         if let Some(asked) = &self.asked {
             if is_around(asked, &at) {
                 into.clear();
-                return pick(&self.boxes, &self.near, &SmallBox::of(&at), a, b, into);
+                pick(&self.near, &at, a, b, into)?;
+                rising(into);
+                return Ok(());
             }
         }
-        self.tree.overlapping_apart(at, a, b, into)
+        self.tree.overlapping_apart(at.extent(), a, b, into)
     }
 }

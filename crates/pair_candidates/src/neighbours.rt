@@ -9,8 +9,9 @@ ghost use Rattle.pair_candidates.specs.Views.{IsView};
 use crate::pair_test::PairTest;
 use crate::still_faces::{StillFaces, all_go_with, edge_goes_with};
 use crate::views::View;
+use box_tree::SmallBox;
 use grid_base::narrow::{SPAN_MAX, span};
-use grid_base::{Extent, NoMemory, Wide};
+use grid_base::{NoMemory, Wide};
 use mesh_base::VertexId;
 use pair_paths::{Frame, MovingEdge, MovingFace, Paths, moving_edge};
 use std::alloc::Global;
@@ -18,7 +19,7 @@ use std::alloc::Global;
 // A question looks ahead at most this many edges, and while its box gets at most this many times as long.
 const AHEAD: usize = 16;
 
-const LONGER: u128 = 4;
+const LONGER: u64 = 4;
 
 // Where more faces than these are found near edges, and more than so many an edge, boxes overlap though faces are far from edges.
 const CROWDED: usize = 100_000;
@@ -36,34 +37,38 @@ pub(crate) struct Scan<'a, P: Paths, A: PairTest> {
 }
 
 // The length of a box, along the axis where it is longest.
-fn length(e: &Extent) -> u128 {
-    let x = e.low.x.abs_diff(e.high.x);
-    let y = e.low.y.abs_diff(e.high.y);
-    let z = e.low.z.abs_diff(e.high.z);
+fn length(e: &SmallBox) -> u64 {
+    let e = e.extent();
+    let x = (e.low.x as i64).abs_diff(e.high.x as i64);
+    let y = (e.low.y as i64).abs_diff(e.high.y as i64);
+    let z = (e.low.z as i64).abs_diff(e.high.z as i64);
     x.max(y).max(z)
 }
 
 // The box of the edge at this place.
-fn box_at<P: Paths, A: PairTest>(scan: &Scan<P, A>, frame: &Frame, k: usize) -> Option<Extent> {
+fn box_at<P: Paths, A: PairTest>(scan: &Scan<P, A>, frame: &Frame, k: usize) -> Option<SmallBox> {
     match scan.edges.get(k) {
-        Some((a, b)) => Some(scan.test.box_of(&moving_edge(scan.paths, *a, *b), frame)),
+        Some((a, b)) => {
+            let e = moving_edge(scan.paths, *a, *b);
+            Some(SmallBox::of(&scan.test.box_of(&e, frame)))
+        }
         None => None,
     }
 }
 
 // A box of this one and those of edges that come next, where so many are past. Only speed depends on which.
 fn with_coming<P: Paths, A: PairTest>(
-    at: Extent,
+    at: SmallBox,
     view: &View,
     scan: &Scan<P, A>,
     past: usize,
-) -> Extent {
+) -> SmallBox {
     let most = length(&at).saturating_mul(LONGER);
     let mut all = at;
     for k in 0..view.ahead {
         match box_at(scan, &view.frame, past.saturating_add(k)) {
             Some(next) => {
-                let more = all.united(&next);
+                let more = SmallBox::of(&all.extent().united(&next.extent()));
                 if length(&more) > most {
                     return all;
                 }
@@ -87,7 +92,7 @@ fn next_ahead(ahead: usize, kept: bool) -> usize {
 // Asks for the faces near this box and the edges that come next, where the last answer does not serve it. A question that
 // looks at no edge ahead is left out: the box alone is asked for later.
 fn look_ahead<P: Paths, A: PairTest>(
-    at: Extent,
+    at: SmallBox,
     view: &mut View,
     scan: &Scan<P, A>,
     past: usize,
@@ -123,7 +128,7 @@ fn near_by_boxes<P: Paths, A: PairTest>(
         OnOk result
         (told_at test A.what e.now faces near.new.items ≡ told_among test A.what e.now faces) }
 {
-    let at = scan.test.box_of(e, &view.frame);
+    let at = SmallBox::of(&scan.test.box_of(e, &view.frame));
     look_ahead(at, view, scan, past)?;
     view.boxes.overlapping_apart(at, e.a.0, e.b.0, near)?;
     view.found = view.found.saturating_add(near.len());

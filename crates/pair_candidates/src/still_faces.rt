@@ -59,8 +59,8 @@ pub(crate) fn all_go_with(faces: &[MovingFace], frame: &Frame) -> bool
     true
 }
 
-// Puts the numbers in order, each of them once.
-fn rising(list: &mut Vec<u64>)
+/// Puts the numbers in order, each of them once.
+pub(crate) fn rising(list: &mut Vec<u64>)
     ensures sorted { IsStrictlySortedBy nat_cmp list.new.items }
     ensures same { (i : ℕ) → has i list.new.items ≡ has i list.old.items }
 {

@@ -35,7 +35,7 @@ fn view_of(alloc: Global, faces: &[MovingFace], frame: Frame) -> Result<View, No
     let list = boxes_in(alloc, faces, &frame)?;
     Ok(View {
         frame,
-        boxes: AskedTree::of(alloc, list)?,
+        boxes: AskedTree::of(alloc, &list)?,
         ahead: 1,
         found: 0,
         is_asked: false,

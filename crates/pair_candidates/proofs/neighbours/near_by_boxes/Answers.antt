@@ -1,5 +1,6 @@
-use Rattle.std.proofs.Common.{ap, ◌∙◌}
+use Rattle.std.proofs.Common.{ap, sym, subst, ◌∙◌}
 use Rattle.box_tree.specs.Overlapping.{overlapping_apart}
+use Rattle.pair_candidates.specs.Told.{LeavesOut}
 use Rattle.pair_candidates.proofs.Still.{view_stays}
 use Rattle.pair_candidates.proofs.Told.{near_tell_all}
 use Rattle.pair_candidates.proofs.neighbours.near_by_boxes.Goals as goal
@@ -20,6 +21,7 @@ pub returns-clause-near : goal.returns-clause-near
 returns-clause-near g c =
     let e = c.args.e.now in
     let view = c.args.view.now in
-    let at = c.box_of-at.result in
-    near_tell_all (g.A.PairTest.test c.args.scan.now.test.now) g.A.PairTest.what view.frame e c.args.scan.now.faces.now view.boxes at c.overlapping_apart.new.into.items c.requires.boxes c.box_of-at.ensures
+    let at = c.of-at.result in
+    near_tell_all (g.A.PairTest.test c.args.scan.now.test.now) g.A.PairTest.what view.frame e c.args.scan.now.faces.now view.boxes at c.overlapping_apart.new.into.items c.requires.boxes
+    (subst (LeavesOut (g.A.PairTest.test c.args.scan.now.test.now) view.frame e) (sym c.of-at.ensures) c.box_of.ensures)
     (c.in_ok-overlapping_apart.ensures ∙ ap (λ x. overlapping_apart c.look_ahead.new.view.boxes at x.a x.b) c.e.view_is ∙ ap (λ m. overlapping_apart m at e.a e.b) c.in_ok-look_ahead.ensures.boxes)

@@ -1,9 +1,12 @@
-use Rattle.std.proofs.Common.{◌≡◌, ◌++◌, ap, subst, ◌∙◌}
-use Rattle.std.specs.Prelude.{OnOk, IfSome}
+use Rattle.std.proofs.Common.{◌++◌, ap, subst, ◌∙◌}
+use Rattle.std.specs.Prelude.{IfSome}
 use Rattle.std.specs.List.{filter}
-use Rattle.box_tree.specs.Overlapping.{overlapping, overlapping_apart}
-use Rattle.pair_candidates.specs.Asked.{is_near_at}
-use Rattle.pair_candidates.proofs.Asked.{serves}
+use Rattle.std.specs.Map.{keys_of}
+use Rattle.cell_grid.specs.Filed.{has}
+use Rattle.box_tree.specs.Found.{AreNear}
+use Rattle.box_tree.specs.Overlapping.{overlaps_apart, overlapping_apart}
+use Rattle.box_tree.proofs.Answered.{picked_is}
+use Rattle.pair_candidates.proofs.Asked.{meets_outer}
 use Rattle.pair_candidates.proofs.asked_tree.AskedTree.overlapping_apart.Goals as goal
 
 pub returns-then-is_around : goal.returns-then-is_around
@@ -11,11 +14,13 @@ returns-then-is_around c =
     let t = c.self.inside in
     let a = c.args.a in
     let b = c.args.b in
-    let answered = subst (λ o. IfSome o (λ at. t.near.items ≡ overlapping t.tree at)) c.in-Some.is c.self.invariant.answered in
-    let all = ap (λ xs. xs ++ filter (is_near_at c.deref.result.now c.of.result a b) c.deref-then-is_around.result.now) c.clear.ensures.items
-    ∙ ap (λ bs. filter (is_near_at bs c.of.result a b) c.deref-then-is_around.result.now) c.deref.ensures.value
-    ∙ ap (λ e. filter (is_near_at t.boxes.items e a b) c.deref-then-is_around.result.now) c.of.ensures
-    ∙ ap (λ ns. filter (is_near_at t.boxes.items c.args.at a b) ns) c.deref-then-is_around.ensures.value
-    ∙ serves t.tree t.boxes.items t.near.items c.in-Some.asked c.args.at a b c.self.invariant.placed answered (c.is_around.ensures c.if-is_around.true)
-    ∙ ap (λ m. overlapping_apart m c.args.at a b) c.self.view_is in
-    subst (λ zs. OnOk c.pick.result (c.pick.new.into.items ≡ zs)) all c.pick.ensures
+    let at = c.args.at in
+    let near = subst (λ o. IfSome o (λ asked. AreNear t.tree asked t.near.items)) c.in-Some.is c.self.invariant in
+    let picked = c.in_ok-pick.ensures
+    ∙ ap (λ xs. xs ++ keys_of (filter (λ e. overlaps_apart at a b e.1) c.deref.result.now)) c.clear.ensures.items
+    ∙ ap (λ ns. keys_of (filter (λ e. overlaps_apart at a b e.1) ns)) c.deref.ensures.value in
+    picked_is t.tree c.in-Some.asked at a b t.near.items c.rising.new.list.items near
+    (λ e. meets_outer e.at at c.in-Some.asked (c.is_around.ensures c.if-is_around.true))
+    c.rising.ensures.sorted
+    (λ i. c.rising.ensures.same i ∙ ap (has i) picked)
+    ∙ ap (λ m. overlapping_apart m at a b) c.self.view_is
