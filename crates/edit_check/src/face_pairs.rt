@@ -45,15 +45,22 @@ fn is_asked_elsewhere(near: &Neighbourhood, is_own: bool, side: &MovingEdge) -> 
     is_side_of_some(side.a, side.b, near.touched) || runs_down_beside(side, near.faces)
 }
 
-/// Among so many faces it takes less time to look whether a side is asked for elsewhere than to test a pair. Only speed depends on it.
+/// Among so many faces it takes less time to look whether one runs a side's way than to test a pair. Only speed depends on it.
 const FEW: usize = 64;
 
-/// Whether it is looked at first whether a side is asked for elsewhere, and it is.
+/// Whether it is seen without a long look that a side is asked for elsewhere: the touched faces are few, and all faces near are looked
+/// through only where they are few too.
 fn is_left_out(near: &Neighbourhood, is_own: bool, side: &MovingEdge) -> bool
     ensures { let n = near.now in
         IsTrue result → is_asked_elsewhere n.faces.now n.touched.now is_own side.now ≡ true }
 {
-    near.faces.len() <= FEW && is_asked_elsewhere(near, is_own, side)
+    if is_own {
+        return runs_down_beside(side, near.touched);
+    }
+    if is_side_of_some(side.a, side.b, near.touched) {
+        return true;
+    }
+    near.faces.len() <= FEW && runs_down_beside(side, near.faces)
 }
 
 /// Whether a side, whose ends have their paths in the box, fails with a face to do what is required of them, and is not asked for
