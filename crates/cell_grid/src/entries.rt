@@ -99,41 +99,28 @@ fn put_at(
     Ok(())
 }
 
-// Takes the item out of a cell's list.
+// Takes the item out of a cell's list, and the list out of the map, if it is empty then.
 fn take_out_at(cells: &mut HashMap<Cell, Vec<Entry>>, at: Cell, item: u64)
     ensures keeps { KeepsOthers item cells.old cells.new }
     ensures elsewhere { KeepsElsewhere at cells.old cells.new }
 {
-    take_out_within(cells, at, item);
-    drop_empty(cells, at);
+    if take_out_within(cells, at, item) {
+        let _ = cells.remove(&at);
+    }
 }
 
-// Takes the item out of a cell's list, and leaves the list.
-fn take_out_within(cells: &mut HashMap<Cell, Vec<Entry>>, at: Cell, item: u64)
+// Takes the item out of a cell's list, and leaves the list. Whether there is one, and it is empty then.
+fn take_out_within(cells: &mut HashMap<Cell, Vec<Entry>>, at: Cell, item: u64) -> bool
+    ensures empty { IsTrue result → held cells.new at ≡ [] }
     ensures keeps { KeepsOthers item cells.old cells.new }
     ensures elsewhere { KeepsElsewhere at cells.old cells.new }
 {
-    if let Some(list) = cells.get_mut(&at) {
-        take_out(list, item);
-    }
-}
-
-// Whether the cell has an empty list.
-fn is_empty_at(cells: &HashMap<Cell, Vec<Entry>>, at: Cell) -> bool
-    ensures { IsTrue result → held cells.now at ≡ [] }
-{
-    match cells.get(&at) {
-        Some(list) => list.is_empty(),
+    match cells.get_mut(&at) {
+        Some(list) => {
+            take_out(list, item);
+            list.is_empty()
+        }
         None => false,
-    }
-}
-
-// Takes the cell's list out of the map, if it is empty.
-fn drop_empty(cells: &mut HashMap<Cell, Vec<Entry>>, at: Cell)
-    ensures { (c : CellAt) → held cells.new c ≡ held cells.old c }
-{
-    if is_empty_at(cells, at) {
-        let _ = cells.remove(&at);
     }
 }
 

@@ -36,6 +36,9 @@ fn is_touched(moves: &[Move], together: &[VertexId], fresh_from: u32, f: &Moving
         || has_a_corner(together, f.corners)
 }
 
+/// A list for the touched faces begins with room for so many, which is enough for most edits. Only speed depends on it.
+const TOUCHED: usize = 16;
+
 /// Those that are touched, in order.
 pub(crate) fn touched_of(
     alloc: Global,
@@ -47,11 +50,11 @@ pub(crate) fn touched_of(
     ensures { IfOk result (λ touched. touched ≡
         touched_boxed moves.now together.now fresh_from faces.now) }
 {
-    let mut touched = Items::new(alloc);
+    let mut touched = Vec::with_capacity(alloc, TOUCHED)?;
     for f in faces {
         if is_touched(moves, together, fresh_from, &f.face) {
             touched.push(*f)?;
         }
     }
-    Ok(touched)
+    Ok(Items::from_vec(touched))
 }
