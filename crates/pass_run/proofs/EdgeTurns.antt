@@ -1,9 +1,7 @@
 -- The turns of edges. An edit of an edge leaves every other vertex where it stands.
-use Rattle.std.proofs.Common.{◌≡◌, ◌≢◌, ℕ, ◌+◌, ◌<◌, ◌≤◌, Bool, true, false, cond, ◌&&◌, ◌||◌, ◌==◌, not, if◌then◌else◌, min, max, List, [], ◌∷◌, ◌++◌, map, length, drop, get_or, Option, Some, None, Result, Ok, is_some, ⊎_elim, refl, sym, ap, subst, ◌∙◌, arith}
-use Rattle.std.specs.Prelude.{slice_get}
+use Rattle.std.proofs.Common.{◌≡◌, ◌≢◌, ℕ, ◌+◌, ◌<◌, ◌≤◌, Bool, true, false, cond, ◌&&◌, ◌||◌, ◌==◌, not, min, max, List, [], ◌∷◌, ◌++◌, map, length, drop, get_or, Option, Some, None, Result, Ok, is_some, ⊎_elim, refl, sym, ap, subst, ◌∙◌, arith}
 use Rattle.std.proofs.lemmas.Bool.{cases_lt}
 use Rattle.std.specs.List.{filter}
-use Rattle.std.specs.Ordering.{nat_cmp}
 use Rattle.std.specs.Cmp.{nat_cmp_total, unsigned_tied}
 use Rattle.std.specs.FinMap as finite
 use Rattle.std.specs.FinMap.{get-insert}
@@ -17,7 +15,7 @@ use Rattle.edit_base.specs.declared.answers.Change.{Change}
 use Rattle.edit_base.specs.declared.Asked.{Asked}
 use Rattle.edit_base.specs.declared.PassKind.{PassKind}
 use Rattle.edit_base.specs.declared.PassKind.TheVariants.{Split, Collapse, Flip, Zip, Pinch}
-use Rattle.edit_base.specs.Edges.{Edge, edge_of, with_renamed, with_all_renamed}
+use Rattle.edit_base.specs.Edges.{Edge, with_renamed, with_all_renamed}
 use Rattle.edit_base.specs.Clauses.{mesh_after}
 use Rattle.edit_base.specs.Reasons.{done_unless}
 use Rattle.edit_split.specs.Split.{split_mesh}
@@ -33,7 +31,7 @@ use Rattle.log_replay.specs.Replay.{at_mesh, mesh_after_lines}
 use Rattle.outside_io.specs.declared.stop.Stop.{Stop}
 use Rattle.pass_run.specs.Candidates.{ask_of, is_due, choice_in}
 use Rattle.pass_run.specs.PassLines.{PassRules, exactly, answer_by, lines_asked, mesh_asked, lines_of, mesh_from, ends, lines_from}
-use Rattle.pass_run.specs.Places.{Stands, IsPlaced, HasPlaces}
+use Rattle.pass_run.specs.Places.{IsPlaced, HasPlaces}
 use Rattle.pass_run.specs.declared.passes.PassCount.{PassCount}
 use Rattle.pass_run.specs.declared.terms.PassTerms.{PassTerms}
 use Rattle.pass_run.specs.Results.{Stage, PassResult, exact_answer}

@@ -1,5 +1,5 @@
 -- Lists of the places of vertices.
-use Rattle.std.proofs.Common.{◌≡◌, ◌≢◌, ⊎_elim, inl, inr, ◌⊎◌, ℕ, zero, suc, ◌+◌, ◌*◌, ◌<◌, ◌≤◌, ℤ, pos, ◌+ℤ◌, ◌-ℤ◌, ◌*ℤ◌, unsigned_abs, to_z, of_z, SFits, Bool, true, false, ◌&&◌, nat_lt, List, [], ◌∷◌, ◌++◌, length, Option, Some, None, is_some, refl, ap, sym, subst, ◌∙◌, arith}
+use Rattle.std.proofs.Common.{◌≡◌, ◌≢◌, ⊎_elim, inl, inr, ◌⊎◌, ℕ, zero, suc, ◌+◌, ◌*◌, ◌<◌, ◌≤◌, ℤ, pos, ◌+ℤ◌, ◌-ℤ◌, unsigned_abs, to_z, of_z, SFits, Bool, true, false, ◌&&◌, nat_lt, List, [], ◌∷◌, ◌++◌, length, Option, Some, None, is_some, refl, ap, sym, subst, ◌∙◌, arith}
 use Rattle.std.specs.Prelude.{slice_get, slice_set}
 use Rattle.std.proofs.lemmas.Bool.Decides.{nat_tests}
 use Rattle.std.specs.Int.{w32}
@@ -12,12 +12,12 @@ use Rattle.grid_base.specs.Triples.{Triple, minus}
 use Rattle.grid_base.proofs.PointLaws.{point_at-position_of}
 use Rattle.mesh_base.specs.Mesh.{Mesh, IsSound, IsLiveVertex}
 use Rattle.mesh_base.specs.Pairs.{is_edge}
-use Rattle.mesh_base.specs.Sides.{runs, IsEdge}
+use Rattle.mesh_base.specs.Sides.{runs}
 use Rattle.mesh_base.specs.Placements.{point_of, rest_positions, position_or_origin}
 use Rattle.mesh_base.proofs.Listed.{edge_live}
 use Rattle.edit_zip.specs.Zip.{square}
 use Rattle.pass_run.specs.Candidates.{length_squared}
-use Rattle.pass_run.specs.Places.{Stands, IsPlaced, HasPlaces}
+use Rattle.pass_run.specs.Places.{Stands, IsPlaced}
 use Rattle.pass_run.proofs.Squares.{square_is}
 
 -- ---- lists

@@ -1,4 +1,4 @@
-use Rattle.std.proofs.Common.{◌≡◌, ◌+◌, ℕ, List, drop, map, length, ap, sym, ◌∙◌, arith}
+use Rattle.std.proofs.Common.{◌+◌, List, drop, ap, sym, ◌∙◌, arith}
 use Rattle.std.proofs.lemmas.Result.{err_from_is_err_and}
 use Rattle.mesh_base.specs.Mesh.{Mesh}
 use Rattle.log_text.specs.declared.LogLine.{LogLine}
