@@ -13,6 +13,8 @@ pub mod Calling
 pub mod Turning
 pub mod Chosen
 pub mod Squares
+pub mod Placing
+pub mod EdgeTurns
 pub mod Fitted
 pub mod Again
 pub mod Edited

@@ -4,7 +4,7 @@ use Rattle.std.proofs.lemmas.Int.{ints}
 use Rattle.grid_base.specs.Triples.{Triple}
 use Rattle.edit_zip.specs.Zip.{square}
 
-square_is : (a : ℤ) → a *ℤ a ≡ pos (unsigned_abs a * unsigned_abs a)
+pub square_is : (a : ℤ) → a *ℤ a ≡ pos (unsigned_abs a * unsigned_abs a)
 square_is (pos n) = refl
 square_is (negsuc n) = refl
 

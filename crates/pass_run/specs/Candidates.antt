@@ -52,13 +52,11 @@ candidates m Flip = all_flips m
 candidates m (Zip within) = all_zips m
 candidates m Pinch = all_pinches m
 
--- the length of a pass over pairs of edges
-abbrev pub pairs_within : PassKind → Option ℕ
-pairs_within (Split over) = None
-pairs_within (Collapse under) = None
-pairs_within Flip = None
-pairs_within (Zip within) = Some within
-pairs_within Pinch = None
+-- what a pass over edges asks of one of them
+abbrev pub ask_of : PassKind → ℕ × ℕ → Asked
+ask_of (Split over) e = asked.Split e.0 e.1
+ask_of (Collapse under) e = asked.Collapse e.0 e.1
+ask_of _ e = asked.Flip e.0 e.1
 
 -- the square of the length from one vertex to another
 abbrev pub length_squared : Mesh → ℕ → ℕ → ℤ

@@ -1,4 +1,5 @@
 pub mod Candidates
+pub mod Places
 pub mod Near
 pub mod PassLines
 pub mod Results

@@ -3,12 +3,14 @@
 
 mod candidates;
 mod chooser;
+mod edge_pass;
 mod edits;
 mod faults;
 pub mod laws;
 mod lengths;
 mod near_edges;
 mod passes;
+mod places;
 mod sizing_pass;
 mod terms;
 mod turns;

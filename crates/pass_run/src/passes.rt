@@ -11,8 +11,9 @@ ghost use Rattle.pass_run.specs.Results.{exact_answer};
 ghost use Rattle.pass_run.specs.Turns.{TakesTurns};
 ghost use Rattle.pass_run.specs.Calls.{stage_before, stage_after, PassTells, LinesKeep, SinkHas};
 
-use crate::candidates::{candidates, pairs_within};
+use crate::candidates::pinches;
 use crate::chooser::Chooses;
+use crate::edge_pass::take_edges;
 use crate::faults::PassFault;
 use crate::near_edges::{EdgeTurn, midpoints, near_pairs};
 use crate::terms::{PassTerms, Turns};
@@ -89,7 +90,7 @@ pub(crate) fn is_over(grouped: bool, count: PassCount) -> bool
 
 /// What is asked, if anything: its edit, its line and its count.
 #[inline(always)]
-fn take_one<S: Surface, O: Listener>(
+pub(crate) fn take_one<S: Surface, O: Listener>(
     alloc: Global,
     mesh: &mut S,
     depth: u8,
@@ -217,10 +218,13 @@ fn take_all<S: Surface, O: Listener>(
     ensures { PassTells S.mesh S.kept O.around mesh outside
         (λ m. lines_from (exactly terms) m (candidates m terms.kind)) result }
 {
-    match pairs_within(terms.kind) {
-        Some(within) => take_pairs(alloc, mesh, terms, within, outside),
-        None => {
-            let asked = candidates(alloc, mesh, terms.kind)?;
+    match terms.kind {
+        PassKind::Split { .. } | PassKind::Collapse { .. } | PassKind::Flip => {
+            take_edges(alloc, mesh, terms, outside)
+        }
+        PassKind::Zip { within } => take_pairs(alloc, mesh, terms, within, outside),
+        PassKind::Pinch => {
+            let asked = pinches(alloc, mesh)?;
             take_asked(alloc, mesh, terms, asked.as_slice(), outside)
         }
     }

@@ -60,7 +60,7 @@ fn is_longer_than_across<S: Surface>(mesh: &S, a: VertexId, b: VertexId, e: &Edg
 
 /// Whether a flip of the edge is due. Most edges are shorter than across, so that is looked at before whether they are crowded.
 #[inline(always)]
-fn is_flip_due<S: Surface>(mesh: &S, a: VertexId, b: VertexId) -> bool
+pub(crate) fn is_flip_due<S: Surface>(mesh: &S, a: VertexId, b: VertexId) -> bool
     requires { IsClosed (S.mesh mesh.now) }
     ensures { result ≡ is_due (S.mesh mesh.now) PassKind.Flip (asked.Flip a b) }
 {
