@@ -213,6 +213,10 @@ impl<B: Undoable> Surface for Journal<B> {
         self.inner.faces_at(v, into)
     }
 
+    fn neighbours_above(&self, v: VertexId, into: &mut Vec<VertexId>) -> Result<(), NoMemory> {
+        self.inner.neighbours_above(v, into)
+    }
+
     fn faces_near(&self, at: Extent, into: &mut Vec<FaceId>) -> Result<(), NoMemory> {
         match &self.boxes.grid {
             Some(grid) => near_in(self.alloc, self, grid, &at, into),
