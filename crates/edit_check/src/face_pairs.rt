@@ -116,6 +116,7 @@ fn side_fails(
 }
 
 /// Whether one of the sides of a face fails with another face, and is not asked for elsewhere.
+#[inline(always)]
 fn sides_fail(near: &Neighbourhood, is_own: bool, f: &BoxedFace, g: &BoxedFace) -> bool
     ensures { let n = near.now in
         result ≡ sides_fail n.terms n.faces.now n.touched.now is_own f.now.face g.now.face }
