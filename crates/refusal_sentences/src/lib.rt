@@ -28,7 +28,7 @@ pub use finer_numbers::has_finer_number;
 pub use log_end::log_end_warning;
 pub use log_reasons::{log_text_reason, replay_reason};
 pub use long_numbers::has_long_number;
-pub use manifold::manifold_warning;
+pub use manifold::{manifold_warning, surface_facts};
 pub use mesh_reasons::mesh_text_reason;
 pub use other_reasons::{off_text_reason, ply_text_reason};
 pub use overwritten::{

@@ -6,3 +6,5 @@ mod Scaled
 mod ReadBack
 mod TopLemmas
 mod Completeness
+mod SurfaceSteps
+mod RisingFaces

@@ -6,4 +6,5 @@ pub mod Reached
 pub mod Outcomes
 pub mod Headline
 pub mod Complete
+pub mod Surface
 pub mod Ending

@@ -6,6 +6,7 @@
 mod ending;
 pub mod laws;
 mod outcome;
+mod surface_facts;
 mod top;
 
 pub use outcome::Outcome;

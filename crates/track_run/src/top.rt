@@ -131,7 +131,7 @@ fn begin<S: Surface + Drop, O: Listener, F: Fn(u8, Point) -> Shift, G: Fn(Point)
     engine.save(alloc, terms.to, outside)?;
     let directives = steps.as_slice();
     let ended = engine.follow(alloc, terms, directives, outside);
-    tell_ending(&engine, directives, &ended, outside);
+    tell_ending(alloc, &engine, directives, &ended, outside);
     ended
 }
 

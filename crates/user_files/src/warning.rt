@@ -8,8 +8,10 @@ use crate::stored_lists::stored_lists_in;
 use crate::texts::Texts;
 use grid_base::TEXT_MAX;
 use mesh_base::MeshLists;
-use outside_io::{Desk, Ending, FileDesk, TryLock};
-use refusal_sentences::{is_inside_out, log_end_warning, manifold_warning, prefix_warning};
+use outside_io::{Desk, Ending, FileDesk, SurfaceFacts, TryLock};
+use refusal_sentences::{
+    is_inside_out, log_end_warning, manifold_warning, prefix_warning, surface_facts,
+};
 use std::alloc::{AllocError, Global};
 use std::fs;
 use std::rt::Files;
@@ -23,13 +25,14 @@ fn warn(alloc: Global, warning: &str, into: &mut Vec<String>) -> Result<(), Allo
 // The warnings that the surface of a mesh gives.
 fn surface_warnings(
     alloc: Global,
-    lists: &MeshLists,
+    is_empty: bool,
+    is_inside_out: bool,
     into: &mut Vec<String>,
 ) -> Result<(), AllocError> {
-    if lists.points.len() == 0 {
+    if is_empty {
         warn(alloc, "the mesh is empty", into)?;
     }
-    if is_inside_out(lists) {
+    if is_inside_out {
         let said = "the surface is turned inside out: its volume is below zero";
         warn(alloc, said, into)?;
     }
@@ -71,15 +74,22 @@ fn reads_log(words: &[String]) -> bool {
     }
 }
 
+// Whether a file that was stored is one that gives its bytes back.
+fn gives_back<R: Files>(rt: &R, name: &str) -> bool {
+    match fs::metadata(rt, name) {
+        Ok(about) => about.is_file() && about.len() <= TEXT_MAX as u64,
+        Err(_) => false,
+    }
+}
+
 // The bytes of a file that was stored, if it is one that gives them back.
 fn stored_bytes<R: Files>(alloc: Global, rt: &R, name: &str) -> Option<Vec<u8>>
 where
     R::File: TryLock,
     ensures { IfSome result (λ bytes. length bytes.items ≤ TEXT_MAX) }
 {
-    match fs::metadata(rt, name) {
-        Ok(about) if about.is_file() => {}
-        _ => return None,
+    if !gives_back(rt, name) {
+        return None;
     }
     let mut bytes = Vec::new(alloc);
     FileDesk::new(alloc, rt)
@@ -102,12 +112,33 @@ where
     stored_lists_in(alloc, names.stored, bytes.as_slice(), names.decimals)
 }
 
+// What may be amiss in the mesh that was stored last: as the run told it, which had the mesh at hand, or as its file says.
+fn stored_facts<R: Files>(
+    alloc: Global,
+    names: Names<'_>,
+    stored: &str,
+    told: Option<SurfaceFacts>,
+    rt: &R,
+) -> Result<Option<SurfaceFacts>, AllocError>
+where
+    R::File: TryLock,
+{
+    if told.is_some() && gives_back(rt, stored) {
+        return Ok(told);
+    }
+    match stored_lists(alloc, names, stored, rt) {
+        Some(lists) => Ok(Some(surface_facts(alloc, &lists)?)),
+        None => Ok(None),
+    }
+}
+
 // The warnings that the mesh which was stored last gives; where that is not to be had, those of the mesh that was read.
 fn mesh_warnings<R: Files>(
     alloc: Global,
     names: Names<'_>,
     texts: &Texts,
     stored: Option<&str>,
+    told: Option<SurfaceFacts>,
     rt: &R,
     into: &mut Vec<String>,
 ) -> Result<(), AllocError>
@@ -115,9 +146,9 @@ where
     R::File: TryLock,
 {
     if let Some(stored) = stored {
-        if let Some(lists) = stored_lists(alloc, names, stored, rt) {
-            surface_warnings(alloc, &lists, into)?;
-            if let Some(warning) = manifold_warning(alloc, stored, &lists)? {
+        if let Some(facts) = stored_facts(alloc, names, stored, told, rt)? {
+            surface_warnings(alloc, facts.is_empty, facts.is_inside_out, into)?;
+            if let Some(warning) = manifold_warning(alloc, stored, &facts)? {
                 into.push(warning)?;
             }
             return Ok(());
@@ -125,7 +156,10 @@ where
     }
     let given = texts.first(names.mesh);
     match lists_in(alloc, names.format, given, names.decimals) {
-        Some(lists) => surface_warnings(alloc, &lists, into),
+        Some(lists) => {
+            let is_empty = lists.points.len() == 0;
+            surface_warnings(alloc, is_empty, is_inside_out(&lists), into)
+        }
         None => Ok(()),
     }
 }
@@ -144,7 +178,7 @@ fn name_warning<R: Files>(
 }
 
 /// Says what may be amiss in a job that is done, from the texts that it read and the mesh that it stored last, each of which is read at most
-/// once more, and from how its directives ended, if it has any to do.
+/// once more, and from how its directives ended, if it has any to do. What that tells of the mesh is not read again.
 pub fn warnings<R: Files>(
     alloc: Global,
     words: &[String],
@@ -165,7 +199,11 @@ where
     if let Some(warning) = rounded(alloc, names.format, given, names.decimals)? {
         said.push(warning)?;
     }
-    mesh_warnings(alloc, names, texts, stored, rt, &mut said)?;
+    let told = match ending {
+        Some(ending) => ending.surface,
+        None => None,
+    };
+    mesh_warnings(alloc, names, texts, stored, told, rt, &mut said)?;
     if let Some(ending) = ending {
         ending_warnings(alloc, ending, &mut said)?;
     }
