@@ -1,4 +1,4 @@
-ghost use Rattle.std.specs.Prelude.{◌≡◌, ℕ, ◌<◌, ◌≤◌, [], true, false, length, slice_get, OnOk, OnErr, IfOk};
+ghost use Rattle.std.specs.Prelude.{◌≡◌, ℕ, ◌<◌, [], true, false, length, slice_get, OnOk, OnErr, IfOk};
 ghost use Rattle.std.specs.List.Sorted.{IsStrictlySortedBy};
 ghost use Rattle.std.specs.Ordering.{nat_cmp};
 ghost use Rattle.std.specs.FinMap as map;
@@ -9,7 +9,7 @@ ghost use Rattle.box_tree.specs.Found.{AreNear};
 use crate::collection::collect_up_to;
 use crate::construction::grow;
 use crate::curve_order::places_along_curve;
-use crate::traversal::{walk, walk_up_to};
+use crate::traversal::walk;
 use crate::{LabelledBox, Node, Question, SmallBox};
 use grid_base::{Extent, NoMemory};
 use std::alloc::Global;
@@ -85,38 +85,6 @@ impl BoxTree {
         }
         rising(into);
         Ok(())
-    }
-
-    /// Sets the list to the places of the boxes that have a common point with this one, rising, and answers true, unless they
-    /// are more than so many: then it answers false, early, and the list is empty. Where there is no memory, it is empty.
-    pub fn overlapping_up_to(
-        &self,
-        at: Extent,
-        most: usize,
-        into: &mut Vec<u64>,
-    ) -> Result<bool, NoMemory>
-        ensures all { IfOk result (λ all. all ≡ true → into.new.items ≡ overlapping self.now at) }
-        ensures few { IfOk result (λ all. all ≡ true → length (overlapping self.now at) ≤ most) }
-        ensures cut { IfOk result (λ all. all ≡ false → into.new.items ≡ []) }
-        ensures more { IfOk result (λ all. all ≡ false → most < length (overlapping self.now at)) }
-        ensures err { OnErr result (into.new.items ≡ []) }
-    {
-        into.clear();
-        let at = SmallBox::of(&at);
-        match walk_up_to(&self.nodes, &Question { at, a: 0, b: 0 }, most, into) {
-            Ok(true) => {
-                rising(into);
-                Ok(true)
-            }
-            Ok(false) => {
-                into.clear();
-                Ok(false)
-            }
-            Err(e) => {
-                into.clear();
-                Err(e)
-            }
-        }
     }
 
     /// Sets the list to the boxes that have a common point with this one, each beside its place, in any order, and answers
