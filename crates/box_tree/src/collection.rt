@@ -1,5 +1,5 @@
 // What a walk over the nodes finds, with the boxes.
-ghost use Rattle.std.specs.Prelude.{◌≡◌, ◌<◌, ◌++◌, true, false, length, reverse, IfOk};
+ghost use Rattle.std.specs.Prelude.{◌≡◌, ◌<◌, ◌≤◌, ◌++◌, true, false, length, reverse, IfOk};
 ghost use Rattle.box_tree.specs.Nodes.{IsTree, entries};
 ghost use Rattle.box_tree.specs.Found.{entries_found};
 
@@ -18,6 +18,8 @@ pub(crate) fn collect_up_to(
     requires { IsTree (reverse nodes.now) }
     ensures all { let found = entries_found q.now (entries (reverse nodes.now)) in
         IfOk result (λ all. all ≡ true → into.new.items ≡ into.old.items ++ found) }
+    ensures few { length into.old.items ≤ most
+        → IfOk result (λ all. all ≡ true → length into.new.items ≤ most) }
     ensures more { let found = entries_found q.now (entries (reverse nodes.now)) in
         IfOk result (λ all. all ≡ false → most < length (into.old.items ++ found)) }
 {

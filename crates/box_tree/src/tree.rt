@@ -1,4 +1,4 @@
-ghost use Rattle.std.specs.Prelude.{◌≡◌, ℕ, ◌<◌, [], true, false, length, slice_get, OnOk, OnErr, IfOk};
+ghost use Rattle.std.specs.Prelude.{◌≡◌, ℕ, ◌<◌, ◌≤◌, [], true, false, length, slice_get, OnOk, OnErr, IfOk};
 ghost use Rattle.std.specs.List.Sorted.{IsStrictlySortedBy};
 ghost use Rattle.std.specs.Ordering.{nat_cmp};
 ghost use Rattle.std.specs.FinMap as map;
@@ -96,6 +96,7 @@ impl BoxTree {
         into: &mut Vec<(u64, LabelledBox)>,
     ) -> Result<bool, NoMemory>
         ensures near { IfOk result (λ all. all ≡ true → AreNear self.now at into.new.items) }
+        ensures few { IfOk result (λ all. all ≡ true → length into.new.items ≤ most) }
         ensures more { IfOk result (λ all. all ≡ false → most < length (overlapping self.now at)) }
     {
         into.clear();

@@ -11,6 +11,7 @@ loop-i-preserved-then-not-finds c =
     let inside : k - 1 < length ns = omega arith in
     record {
       within = omega arith;
+      few = c.loop-i.invariant.few;
       tree = skip_tree ns k (k - 1) n one inside c.index-nodes-i.is c.loop-i.invariant.tree;
       all = ap (λ xs. c.loop-i.into.items ++ xs) (sym (skip_found ns k (k - 1) n one inside c.index-nodes-i.is c.loop-i.invariant.tree c.args.q.now (sym c.if-not-finds.ensures))) ∙ c.loop-i.invariant.all;
     }

@@ -8,6 +8,7 @@ invariant-loop-i l = record {
   within : l.i ≤ length l.nodes;
   tree : IsTree (reverse (take l.i l.nodes));
   all : l.into.items ++ entries_found l.q (entries (reverse (take l.i l.nodes))) ≡ l.fn.into.items ++ entries_found l.q (entries (reverse l.nodes));
+  few : length l.fn.into.items ≤ l.most → length l.into.items ≤ l.most;
 }
 
 abbrev pub decreases-loop-i : goal.decreases-loop-i

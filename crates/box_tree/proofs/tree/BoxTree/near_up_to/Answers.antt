@@ -2,7 +2,7 @@ use Rattle.std.proofs.Common.{◌∙◌, ◌++◌, ◌<◌, length, ap, subst, r
 use Rattle.box_tree.specs.declared.question.Question.{Question}
 use Rattle.box_tree.specs.Nodes.{entries}
 use Rattle.box_tree.specs.Found.{entries_found}
-use Rattle.box_tree.proofs.Answered.{near_is, near_many}
+use Rattle.box_tree.proofs.Answered.{near_is, near_many, none_is_few}
 use Rattle.box_tree.proofs.Orders.{if_ok}
 use Rattle.box_tree.proofs.tree.BoxTree.near_up_to.Goals as goal
 
@@ -23,3 +23,6 @@ returns-clause-more c =
     (λ all longer no'. near_many c.args.at (entries (reverse ns)) c.clear.new.self.items c.args.most c.self.invariant.1 c.clear.ensures.items
     (subst (λ ms. c.args.most < length (c.clear.new.self.items ++ entries_found q (entries (reverse ms)))) c.deref.ensures.value (longer no')))
     c.collect_up_to.ensures.more)
+
+pub returns-clause-few : goal.returns-clause-few
+returns-clause-few c = c.collect_up_to.ensures.few (none_is_few c.clear.new.self.items c.args.most c.clear.ensures.items)
