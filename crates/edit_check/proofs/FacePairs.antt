@@ -19,7 +19,7 @@ use Rattle.pair_paths.specs.Pairing.{have_a_vertex_in_common, name_with}
 use Rattle.edit_check.specs.declared.boxed.BoxedFace.{BoxedFace}
 use Rattle.edit_check.specs.declared.terms.Terms.{Terms}
 use Rattle.edit_check.specs.Boxed.{first_failing_boxed, is_side_of_boxed}
-use Rattle.edit_check.specs.FacePairs.{upward, runs_down_beside, is_asked_elsewhere, side_fails, sides_fail, are_asked, faces_fail, fails_with_some, some_touched_fail}
+use Rattle.edit_check.specs.FacePairs.{upward, runs_down_beside, is_asked_elsewhere, side_fails, sides_fail, faces_fail, fails_with_some, some_touched_fail}
 use Rattle.edit_check.specs.Failing.{fails}
 use Rattle.edit_check.specs.Neighbourhood.{EdgeGoes, FaceGoes}
 use Rattle.edit_check.specs.Searching.{first_near, with_edge, with_faces, edges_of}
@@ -55,19 +55,11 @@ pub no_and : (a b : Bool) → b ≡ false → (a && b) ≡ false
 no_and true b h = h
 no_and false b h = refl
 
-pub or_true : (a b : Bool) → a ≡ true → (a || b) ≡ true
-or_true true b h = refl
-or_true false b h = absurd (false≢true h)
-
-pub or_false : (a b : Bool) → a ≡ false → (a || b) ≡ b
-or_false true b h = absurd (false≢true (sym h))
-or_false false b h = refl
-
 pub and_true : (a b : Bool) → b ≡ true → (a && b) ≡ a
 and_true true b h = h
 and_true false b h = refl
 
-pub no_two : (a b : Bool) → a ≡ false → b ≡ false → (a || b) ≡ false
+no_two : (a b : Bool) → a ≡ false → b ≡ false → (a || b) ≡ false
 no_two true b h i = absurd (false≢true (sym h))
 no_two false b h i = i
 
@@ -127,22 +119,6 @@ pub apart_faces_do : (t : Terms) (faces touched : List BoxedFace) (f g : MovingF
 apart_faces_do t faces touched f g box other F G off =
     no_two (sides_fail t faces touched true f g) (sides_fail t faces touched false g f)
     (apart_do t faces touched true f g box other F G off) (apart_do t faces touched false g f other box G F (overlaps_turned box other ∙ off))
-
--- where each side is asked for elsewhere, none fails
-pub asked_do : (t : Terms) (faces touched : List BoxedFace) (g f : MovingFace) → are_asked touched g ≡ true → sides_fail t faces touched false g f ≡ false
-asked_do t faces touched g f h =
-    let k = g.corners in
-    let one = is_side_of_boxed k.first k.second touched in
-    let two = is_side_of_boxed k.second k.third touched in
-    let three = is_side_of_boxed k.third k.first touched in
-    let both : (one && two) ≡ true = first_and (one && two) three h in
-    no_three (side_fails t faces touched false (first_side g) f) (side_fails t faces touched false (second_side g) f) (side_fails t faces touched false (third_side g) f)
-    (does (first_side g) (first_and one two both))
-    (does (second_side g) (second_and one two both))
-    (does (third_side g) (second_and (one && two) three h))
-  where
-    does : (e : MovingEdge) → is_side_of_boxed e.a e.b touched ≡ true → side_fails t faces touched false e f ≡ false
-    does e is = asked_does (is_asked_elsewhere faces touched false e) (fails t.touch t.together.now t.depth (upward e) f) (or_true (is_side_of_boxed e.a e.b touched) (runs_down_beside faces e) is)
 
 -- a side that shares a vertex with a face does not fail with it
 pub shared_does : (t : Terms) (faces touched : List BoxedFace) (own : Bool) (e : MovingEdge) (f : MovingFace) → have_a_vertex_in_common e f ≡ true → side_fails t faces touched own e f ≡ false
@@ -266,7 +242,7 @@ module _ (w : Motion) (t : Terms) (faces touched : List BoxedFace) (own : Bool) 
       by_test false is = has_both (down_free is) f.face.corners f.face.face ca cb (subst (λ x. sides_fail t faces touched own x g ≡ false) goes fine)
 
 -- ---- faces of which none fail
-module _ (w : Motion) (t : Terms) (faces touched : List BoxedFace) (none : some_touched_fail t faces touched faces ≡ false)
+module _ (w : Motion) (t : Terms) (faces touched : List BoxedFace) (none : some_touched_fail t faces touched touched ≡ false)
     (go : AllByRecursion (λ f. FaceGoes w f.face) faces) (touched_go : AllByRecursion (λ f. FaceGoes w f.face) touched) where
   abbrev Do : BoxedFace → BoxedFace → Type 0
   Do f g = faces_fail t faces touched f.face g.face ≡ false
@@ -283,12 +259,12 @@ module _ (w : Motion) (t : Terms) (faces touched : List BoxedFace) (none : some_
   abbrev IsDone : BoxedFace → Type 0
   IsDone g = AllByRecursion (λ f. Do f g) touched
 
-  all_done : AllByRecursion IsDone faces
-  all_done = all_weaker (λ g. fails_with_some t faces touched touched g.face ≡ false) IsDone faces (λ g h. none_of (λ f. faces_fail t faces touched f.face g.face) touched h)
-      (none_of (λ g. fails_with_some t faces touched touched g.face) faces none)
-
   all_do : AllByRecursion DoesAll touched
-  all_do = transposed (λ g f. Do f g) faces touched all_done
+  all_do = all_weaker (λ f. fails_with_some t faces touched f.face faces ≡ false) DoesAll touched (λ f h. none_of (λ g. faces_fail t faces touched f.face g.face) faces h)
+      (none_of (λ f. fails_with_some t faces touched f.face faces) touched none)
+
+  all_done : AllByRecursion IsDone faces
+  all_done = transposed Do touched faces all_do
 
   abbrev first : MovingEdge → Option PairName
   first e = first_near t faces touched e

@@ -123,7 +123,7 @@ module _ (m : Mesh) (moves : List Move) (t : Terms) (fresh_from : ℕ) (box : Ex
       each_near)
 
   -- nothing is found where no touched face fails with one near
-  pub none_where_none_fail : some_touched_fail t faces touched faces ≡ false → with_faces t faces touched None faces ≡ None
+  pub none_where_none_fail : some_touched_fail t faces touched touched ≡ false → with_faces t faces touched None faces ≡ None
   none_where_none_fail none = none_with_faces w t faces touched none
       (all_weaker (λ f. IsFace f.face) (λ f. FaceGoes w f.face) faces (λ f is. is.1) each_near)
       (all_weaker IsHeld (λ f. FaceGoes w f.face) touched (λ f is. is.0) each_touched)

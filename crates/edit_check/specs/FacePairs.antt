@@ -44,19 +44,12 @@ abbrev pub faces_fail : Terms → List BoxedFace → List BoxedFace → MovingFa
 faces_fail t faces touched f g =
     sides_fail t faces touched true f g || sides_fail t faces touched false g f
 
--- each side of the face is one of a touched face
-abbrev pub are_asked : List BoxedFace → MovingFace → Bool
-are_asked touched g =
-    let k = g.corners in
-    (is_side_of_boxed k.first k.second touched && is_side_of_boxed k.second k.third touched)
-    && is_side_of_boxed k.third k.first touched
-
--- so do one of some touched faces and a face
-abbrev pub fails_with_some : Terms → List BoxedFace → List BoxedFace → List BoxedFace → MovingFace →
+-- so do a touched face and one of some faces
+abbrev pub fails_with_some : Terms → List BoxedFace → List BoxedFace → MovingFace → List BoxedFace →
     Bool
-fails_with_some t faces touched some g = list_any (λ f. faces_fail t faces touched f.face g) some
+fails_with_some t faces touched f some = list_any (λ g. faces_fail t faces touched f g.face) some
 
--- so do one of the touched faces and one of some faces
+-- so do one of some touched faces and one of the faces
 abbrev pub some_touched_fail : Terms → List BoxedFace → List BoxedFace → List BoxedFace → Bool
 some_touched_fail t faces touched some =
-    list_any (λ g. fails_with_some t faces touched touched g.face) some
+    list_any (λ f. fails_with_some t faces touched f.face faces) some

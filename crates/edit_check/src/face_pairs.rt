@@ -5,7 +5,7 @@ ghost use Rattle.pair_paths.specs.Bounds.{HoldsEdge};
 ghost use Rattle.pair_paths.specs.Pairing.{have_a_vertex_in_common};
 ghost use Rattle.edit_check.specs.Sides.{side_of};
 ghost use Rattle.edit_check.specs.FacePairs.{upward, runs_down_beside, is_asked_elsewhere};
-ghost use Rattle.edit_check.specs.FacePairs.{side_fails, sides_fail, are_asked, faces_fail};
+ghost use Rattle.edit_check.specs.FacePairs.{side_fails, sides_fail, faces_fail};
 ghost use Rattle.edit_check.specs.FacePairs.{fails_with_some, some_touched_fail};
 
 use crate::boxed::{BoxedEdge, BoxedFace};
@@ -130,43 +130,25 @@ fn sides_fail(near: &Neighbourhood, is_own: bool, f: &BoxedFace, g: &BoxedFace) 
         || side_fails(near, is_own, third || first, Side::Third, f, g)
 }
 
-/// Whether each side of a face is one of a touched face, and so asked for there. It is so of each touched face.
-fn are_asked(near: &Neighbourhood, g: &BoxedFace) -> bool
-    ensures { result ≡ are_asked near.now.touched.now g.now.face }
-{
-    let k = &g.face.corners;
-    is_side_of_some(k.first, k.second, near.touched)
-        && is_side_of_some(k.second, k.third, near.touched)
-        && is_side_of_some(k.third, k.first, near.touched)
-}
-
 /// Whether a side of a touched face fails with another face, or a side of that one with the touched one. None does where
-/// their boxes have no common point, and none of the other face where it is known that each of its sides is asked for elsewhere.
-fn faces_fail(near: &Neighbourhood, is_asked: bool, f: &BoxedFace, g: &BoxedFace) -> bool
-    requires { is_asked ≡ are_asked near.now.touched.now g.now.face }
+/// their boxes have no common point.
+fn faces_fail(near: &Neighbourhood, f: &BoxedFace, g: &BoxedFace) -> bool
     ensures { let n = near.now in
         result ≡ faces_fail n.terms n.faces.now n.touched.now f.now.face g.now.face }
 {
     if !g.bounds.overlaps(&f.bounds) {
         return false;
     }
-    if sides_fail(near, true, f, g) {
-        return true;
-    }
-    if is_asked {
-        return false;
-    }
-    sides_fail(near, false, g, f)
+    sides_fail(near, true, f, g) || sides_fail(near, false, g, f)
 }
 
-/// Whether one of the touched faces and a face near fail so.
-fn fails_with_some(near: &Neighbourhood, g: &BoxedFace) -> bool
+/// Whether a touched face and one of the faces near fail so.
+fn fails_with_some(near: &Neighbourhood, f: &BoxedFace) -> bool
     ensures { let n = near.now in
-        result ≡ fails_with_some n.terms n.faces.now n.touched.now n.touched.now g.now.face }
+        result ≡ fails_with_some n.terms n.faces.now n.touched.now f.now.face n.faces.now }
 {
-    let is_asked = are_asked(near, g);
-    for f in near.touched {
-        if faces_fail(near, is_asked, f, g) {
+    for g in near.faces {
+        if faces_fail(near, f, g) {
             return true;
         }
     }
@@ -177,10 +159,10 @@ fn fails_with_some(near: &Neighbourhood, g: &BoxedFace) -> bool
 /// not as required.
 fn some_touched_fail(near: &Neighbourhood) -> bool
     ensures { let n = near.now in
-        result ≡ some_touched_fail n.terms n.faces.now n.touched.now n.faces.now }
+        result ≡ some_touched_fail n.terms n.faces.now n.touched.now n.touched.now }
 {
-    for g in near.faces {
-        if fails_with_some(near, g) {
+    for f in near.touched {
+        if fails_with_some(near, f) {
             return true;
         }
     }
@@ -193,7 +175,7 @@ const TOUCHED: usize = 64;
 /// Whether it is found so that none fails. Where many are touched, as all round a vertex of high degree that moves, it is not looked.
 pub(crate) fn none_is_seen_to_fail(near: &Neighbourhood) -> bool
     ensures { let n = near.now in
-        IsTrue result → some_touched_fail n.terms n.faces.now n.touched.now n.faces.now ≡ false }
+        IsTrue result → some_touched_fail n.terms n.faces.now n.touched.now n.touched.now ≡ false }
 {
     if near.touched.len() > TOUCHED {
         return false;
