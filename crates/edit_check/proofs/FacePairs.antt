@@ -55,6 +55,10 @@ pub no_and : (a b : Bool) → b ≡ false → (a && b) ≡ false
 no_and true b h = h
 no_and false b h = refl
 
+pub or_true : (a b : Bool) → a ≡ true → (a || b) ≡ true
+or_true true b h = refl
+or_true false b h = absurd (false≢true h)
+
 pub and_true : (a b : Bool) → b ≡ true → (a && b) ≡ a
 and_true true b h = h
 and_true false b h = refl
