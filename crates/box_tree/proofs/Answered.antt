@@ -106,7 +106,7 @@ and_all true = refl
 and_all false = refl
 
 -- an empty list is as short as one may ask
-pub none_is_few : (xs : List ℕ) (most : ℕ) → xs ≡ [] → length xs ≤ most
+pub none_is_few : {A : Type 0} (xs : List A) (most : ℕ) → xs ≡ [] → length xs ≤ most
 none_is_few xs most none = subst (λ ys. length ys ≤ most) (sym none) (omega arith)
 
 -- what a walk adds to an empty list is what the question finds

@@ -69,11 +69,7 @@ fn put_neighbours_in<T: FaceTable>(
 }
 
 /// Puts the neighbours in each live face at the end of an empty list.
-fn put_all<T: FaceTable>(
-    ids: &mut Vec<VertexId>,
-    table: &T,
-    v: VertexId,
-) -> Result<(), NoMemory>
+fn put_all<T: FaceTable>(ids: &mut Vec<VertexId>, table: &T, v: VertexId) -> Result<(), NoMemory>
     requires sound { IsSound (T.mesh table.now) }
     requires empty { ids.old.items ≡ [] }
     ensures { let m = T.mesh table.now in
