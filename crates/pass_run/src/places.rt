@@ -1,5 +1,5 @@
 //! Where vertices stand, in a list by id, so that the length of an edge costs no look-up.
-ghost use Rattle.std.specs.Prelude.{◌≡◌, ◌≢◌, ◌≤◌, ◌*◌, ◌^◌, ◌-ℤ◌, ℕ, pos, unsigned_abs, true, false, length, slice_get, IfOk};
+ghost use Rattle.std.specs.Prelude.{◌≡◌, ◌≢◌, ◌≤◌, ◌*◌, ◌^◌, ◌-ℤ◌, ℕ, pos, unsigned_abs, true, false, length, IfOk};
 ghost use Rattle.grid_base.specs.declared.TheConstants.{BOX};
 ghost use Rattle.grid_base.specs.Points.{position_of};
 ghost use Rattle.grid_base.specs.Triples.{minus};
@@ -7,7 +7,7 @@ ghost use Rattle.mesh_base.specs.Pairs.{is_edge};
 ghost use Rattle.mesh_base.specs.Sides.{IsClosed};
 ghost use Rattle.edit_zip.specs.Zip.{square};
 ghost use Rattle.pass_run.specs.Candidates.{ask_of, is_due, length_squared};
-ghost use Rattle.pass_run.specs.Places.{IsPlaced, HasPlaces};
+ghost use Rattle.pass_run.specs.Places.{Stands, IsPlaced, HasPlaces};
 
 use crate::turns::is_flip_due;
 use edit_base::PassKind;
@@ -64,6 +64,18 @@ pub(crate) fn place_again<S: Surface>(mesh: &S, places: &mut Vec<Point>, v: Vert
     }
 }
 
+/// Where a vertex stands.
+#[inline(always)]
+fn place_of<S: Surface>(mesh: &S, places: &[Point], v: VertexId) -> Point
+    requires { HasPlaces (S.mesh mesh.now) places.now }
+    ensures { Stands (S.mesh mesh.now) v result }
+{
+    match places.get(v.0 as usize) {
+        Some(p) => *p,
+        None => point_of(mesh, v),
+    }
+}
+
 /// The square of a length along an axis.
 #[inline(always)]
 fn square_of(length: u32) -> u64
@@ -101,33 +113,14 @@ fn square_of_limit(limit: u32) -> u64
     u64::from(limit) * u64::from(limit)
 }
 
-/// The square of the length of an edge, one of whose ends has no place.
-fn square_in_mesh<S: Surface>(mesh: &S, a: VertexId, b: VertexId) -> u64
-    ensures { let m = S.mesh mesh.now in
-        is_edge m a b ≡ true → pos result ≡ length_squared m a b }
-{
-    square_between(point_of(mesh, a), point_of(mesh, b))
-}
-
-/// The place of a vertex, if it has one.
-#[inline(always)]
-fn place_of(places: &[Point], v: VertexId) -> Option<Point>
-    ensures { result ≡ slice_get places.now v }
-{
-    places.get(v.0 as usize).copied()
-}
-
 /// The square of the length of an edge.
 #[inline(always)]
-fn square_in<S: Surface>(mesh: &S, places: &[Point], a: VertexId, b: VertexId) -> u64
+fn square_in<S: Surface>(mesh: &S, places: &[Point], e: (VertexId, VertexId)) -> u64
     requires { HasPlaces (S.mesh mesh.now) places.now }
     ensures { let m = S.mesh mesh.now in
-        is_edge m a b ≡ true → pos result ≡ length_squared m a b }
+        is_edge m e.0 e.1 ≡ true → pos result ≡ length_squared m e.0 e.1 }
 {
-    match (place_of(places, a), place_of(places, b)) {
-        (Some(p), Some(q)) => square_between(p, q),
-        _ => square_in_mesh(mesh, a, b),
-    }
+    square_between(place_of(mesh, places, e.0), place_of(mesh, places, e.1))
 }
 
 /// Whether what a pass asks of an edge may be due, by the length of the edge; of a flip, whether it is. Where it may not, it is not.
@@ -143,8 +136,8 @@ pub(crate) fn may_be_due<S: Surface>(
     ensures { result ≡ false → is_due (S.mesh mesh.now) kind (ask_of kind e) ≡ false }
 {
     match kind {
-        PassKind::Split { over } => square_of_limit(over) < square_in(mesh, places, e.0, e.1),
-        PassKind::Collapse { under } => square_in(mesh, places, e.0, e.1) < square_of_limit(under),
+        PassKind::Split { over } => square_of_limit(over) < square_in(mesh, places, e),
+        PassKind::Collapse { under } => square_in(mesh, places, e) < square_of_limit(under),
         PassKind::Flip => is_flip_due(mesh, e.0, e.1),
         _ => true,
     }
