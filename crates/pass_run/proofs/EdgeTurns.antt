@@ -8,7 +8,6 @@ use Rattle.std.specs.FinMap.{get-insert}
 use Rattle.grid_base.specs.declared.Point.{Point}
 use Rattle.mesh_base.proofs.Tests.{untied}
 use Rattle.mesh_base.specs.Mesh.{Mesh}
-use Rattle.mesh_base.specs.Pairs.{edges}
 use Rattle.mesh_base.specs.Sides.{has_corner, faces_where, faces_at}
 use Rattle.edit_base.specs.declared.answers.Why.{Why}
 use Rattle.edit_base.specs.declared.answers.Change.{Change}
