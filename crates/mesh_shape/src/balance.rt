@@ -12,6 +12,7 @@ ghost use Rattle.mesh_shape.specs.Balance.{same_ends, times, HasRuns, AddsRuns, 
 ghost use Rattle.mesh_shape.specs.Balance.{differs, Walks, are_vertices, HasUnbalanced};
 
 use crate::fault_list::{is_vertex, put_if};
+use crate::rows::put_in_rows;
 use grid_base::NoMemory;
 use mesh_base::ShapeFault;
 use std::alloc::Global;
@@ -80,7 +81,7 @@ fn sides_of(alloc: Global, faces: &[[u32; 3]]) -> Result<Sides, NoMemory>
 }
 
 /// A number that is smaller for the earlier of two sides. A sort by it takes two thirds of the time of one by the pairs.
-fn rank(side: Side) -> u64
+pub(crate) fn rank(side: Side) -> u64
     ensures { result ≡ side_rank side }
 {
     let (u, v) = side;
@@ -95,11 +96,14 @@ fn put_in_order(sides: &mut Vec<Side>)
     sides.sort_unstable_by_key(|side| rank(*side));
 }
 
-/// The sides of the faces, in order.
+/// The sides of the faces, in order. They are put in rows first: faces of a mesh have some three sides from each smaller end, so that this costs
+/// a fifth of a sort of all, which then finds them in order.
 fn sides_in_order(alloc: Global, faces: &[[u32; 3]]) -> Result<Sides, NoMemory>
     ensures { IfOk result (AreSidesOf faces.now) }
 {
     let mut sides = sides_of(alloc, faces)?;
+    put_in_rows(alloc, &mut sides.up)?;
+    put_in_rows(alloc, &mut sides.down)?;
     put_in_order(&mut sides.up);
     put_in_order(&mut sides.down);
     Ok(sides)

@@ -7,6 +7,7 @@ mod doubled;
 mod fault_list;
 mod good_shape;
 pub mod laws;
+mod rows;
 
 pub use all_faults::shape_faults;
 pub use good_shape::shape;
