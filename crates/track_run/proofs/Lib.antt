@@ -8,3 +8,5 @@ mod TopLemmas
 mod Completeness
 mod SurfaceSteps
 mod RisingFaces
+mod Marking
+mod FirstSides
