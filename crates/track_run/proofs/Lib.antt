@@ -10,3 +10,4 @@ mod SurfaceSteps
 mod RisingFaces
 mod Marking
 mod FirstSides
+mod FaceSums

@@ -8,4 +8,5 @@ pub mod Headline
 pub mod Complete
 pub mod Surface
 pub mod Marks
+pub mod Places
 pub mod Ending

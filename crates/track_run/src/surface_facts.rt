@@ -8,10 +8,10 @@ ghost use Rattle.track_run.specs.Surface.{each_corners, crowded_edges, opposite_
 ghost use Rattle.track_run.specs.Surface.{runs_up_twice, rises, is_there_at, stands};
 ghost use Rattle.track_run.specs.Marks.{is_marked, HasMark, corner_number, side_place, IsMet, AreMet, face_place, AreOppositesMarked};
 
+use crate::listed_volume::is_inside_out;
 use edit_acts::{are_equal, corners_at};
 use grid_base::NoMemory;
 use mesh_base::{Corners, FaceId, Surface, VertexId, edges_in_order, live_faces};
-use mesh_measure::volume6;
 use outside_io::SurfaceFacts;
 use std::alloc::Global;
 
@@ -307,9 +307,10 @@ pub(crate) fn surface_facts<S: Surface>(alloc: Global, mesh: &S) -> Result<Surfa
     let faces = each_corners(alloc, mesh)?;
     let crowded = crowded_edges(alloc, mesh, faces.as_slice())?;
     let opposite = opposite_faces(alloc, mesh, faces.as_slice())?;
+    let is_inside_out = is_inside_out(alloc, mesh, faces.as_slice())?;
     Ok(SurfaceFacts {
         is_empty: mesh.vertices() == 0,
-        is_inside_out: volume6(mesh) < 0,
+        is_inside_out,
         crowded: crowded as u64,
         opposite: opposite as u64,
     })
