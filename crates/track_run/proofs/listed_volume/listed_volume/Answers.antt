@@ -1,10 +1,10 @@
-use Rattle.std.proofs.Common.{◌≡◌, ◌≤◌, ◌+◌, ◌*◌, ◌+ℤ◌, ◌∷◌, length, drop, unsigned_abs, ap, sym, ◌∙◌, to_z, of_z, arith}
+use Rattle.std.proofs.Common.{◌≡◌, ◌+◌, ◌*◌, ◌+ℤ◌, ◌∷◌, length, drop, ap, sym, ◌∙◌, to_z, of_z, arith}
 use Rattle.std.proofs.lemmas.Int.{ints}
 use Rattle.std.proofs.lemmas.List.{drop_more, drop_all}
 use Rattle.std.specs.Int.{w128}
 use Rattle.mesh_base.specs.Placements.{rest_positions}
 use Rattle.mesh_measure.specs.declared.TheConstants.{DETERMINANT_MAX}
-use Rattle.mesh_measure.specs.Volume.{face_volume, volume6}
+use Rattle.mesh_measure.specs.Volume.{volume6}
 use Rattle.mesh_measure.proofs.VolumeSteps.{all_fit}
 use Rattle.track_run.proofs.FaceSums.{all_listed, few_listed, told_more, told_all, within_more}
 use Rattle.track_run.proofs.listed_volume.listed_volume.Goals as goal
