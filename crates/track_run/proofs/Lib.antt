@@ -8,3 +8,6 @@ mod TopLemmas
 mod Completeness
 mod SurfaceSteps
 mod RisingFaces
+mod Marking
+mod FirstSides
+mod FaceSums

@@ -34,7 +34,7 @@ most_others false false true h = refl
 most_others false false false h = refl
 
 -- ---- corners that are the same up to rotation rise alike
-less_back : (x y : ℕ) → nat_lt x y ≡ true → nat_lt y x ≡ false
+pub less_back : (x y : ℕ) → nat_lt x y ≡ true → nat_lt y x ≡ false
 less_back x y h = grind (arith, nat_tests)
 
 less_on : (x y : ℕ) → x ≢ y → nat_lt x y ≡ false → nat_lt y x ≡ true
@@ -58,7 +58,7 @@ same_rise c d h =
 turned_rises : (c : Corners) → rises (turned c) ≡ rises c
 turned_rises c = most_turned (nat_lt c.first c.second) (nat_lt c.second c.third) (nat_lt c.third c.first)
 
-alike_rise : (c d : Corners) → equal_up_to_rotation c d ≡ true → rises c ≡ rises d
+pub alike_rise : (c d : Corners) → equal_up_to_rotation c d ≡ true → rises c ≡ rises d
 alike_rise c d h = ⊎_elim
     (λ two. ⊎_elim
     (λ one. same_rise c d one)

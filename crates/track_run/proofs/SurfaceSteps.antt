@@ -1,7 +1,5 @@
 -- Crowded edges and faces with an opposite, found along the sides of faces.
-use Rattle.std.proofs.Common.{◌≡◌, ℕ, zero, suc, ◌+◌, ◌<◌, Bool, true, false, cond, ◌&&◌, ◌||◌, ◌==◌, List, [], ◌∷◌, map, drop, Some, slice_get, nat_lt, ⊎_elim, refl, sym, ap, subst, ◌∙◌, add-one, arith}
-use Rattle.std.proofs.lemmas.Bool.{false≢true, eqb-true}
-use Rattle.std.proofs.lemmas.Bool.Decides.{nat_tests}
+use Rattle.std.proofs.Common.{◌≡◌, ℕ, zero, suc, ◌+◌, Bool, true, false, cond, ◌&&◌, ◌||◌, ◌==◌, List, [], ◌∷◌, map, drop, Some, slice_get, nat_lt, refl, sym, ap, ◌∙◌, add-one, arith}
 use Rattle.std.specs.Option.{option_map_or, unwrap_or}
 use Rattle.std.specs.List.{filter, fold, list_any, count_by, AllByRecursion}
 use Rattle.std.specs.Ordering.{nat_cmp}
@@ -13,11 +11,10 @@ use Rattle.mesh_base.specs.declared.ids.Corners.{Corners}
 use Rattle.mesh_base.specs.Mesh.{Mesh, HasCorners, equal_up_to_rotation}
 use Rattle.mesh_base.specs.Sides.{follows, runs, ids_where}
 use Rattle.mesh_base.specs.Pairs.{edges, id_pairs, is_edge}
-use Rattle.mesh_base.proofs.Listed.{running_face, at_key, each_found}
+use Rattle.mesh_base.proofs.Listed.{each_found}
 use Rattle.mesh_base.proofs.ListedPairs.{all_flat_mapped, all_mapped, all_filtered, all_weaker, all_always}
-use Rattle.mesh_base.proofs.Tests.{and_first, and_second, and_both, or_first, or_second, or_either}
 use Rattle.edit_base.specs.Edges.{corners_at}
-use Rattle.track_run.specs.Surface.{crowded_edges, each_corners, backward, has_opposite, runs_up_twice, has_crowded_side, is_there_at, stands}
+use Rattle.track_run.specs.Surface.{crowded_edges, each_corners, backward, has_opposite, runs_up_twice, is_there_at, stands}
 
 neither : (a b : Bool) → (a || b) ≡ false → (a ≡ false) × (b ≡ false)
 neither true b h = cc
@@ -38,7 +35,7 @@ all_corners m (e ∷ es) h = λ i. corners_there m e.0 e.1 h.0 i ∷ all_corners
 pub corners_of_all : (m : Mesh) → map (λ f. corners_at m f) (finite.keys m.faces) ≡ each_corners m
 corners_of_all m = all_corners m (finite.entries m.faces) (each_there m)
 
--- ---- where no side is crowded, no edge is
+-- ---- where no side is run up twice, no edge is crowded
 pub none_of : (test : Corners → Bool) (es : List (ℕ × Corners)) → list_any test (map (λ e. e.1) es) ≡ false → AllByRecursion (λ (e : ℕ × Corners). test e.1 ≡ false) es
 none_of test [] h = tt
 none_of test (e ∷ es) h = let two = neither (test e.1) (list_any test (map (λ x. x.1) es)) h in (two.0, none_of test es two.1)
@@ -53,39 +50,6 @@ none_from test n (x ∷ xs) h =
 pub none_counted : {X : Type 0} (test : X → Bool) (xs : List X) → AllByRecursion (λ x. test x ≡ false) xs → count_by test xs ≡ 0
 none_counted test xs h = none_from test 0 xs h
 
-some : (n : ℕ) → nat_lt 1 n ≡ true → 0 < n
-some n h = grind (arith, nat_tests)
-
-side_at : (m : Mesh) (x y u v : ℕ) → (x == u && y == v) ≡ true → runs_up_twice m u v ≡ true → runs_up_twice m x y ≡ true
-side_at m x y u v h up =
-    subst (λ a. runs_up_twice m a y ≡ true) (sym (eqb-true x u (and_first (x == u) (y == v) h)))
-    (subst (λ b. runs_up_twice m u b ≡ true) (sym (eqb-true y v (and_second (x == u) (y == v) h))) up)
-
-crowded_at : (m : Mesh) (c : Corners) (u v : ℕ) → follows c u v ≡ true → runs_up_twice m u v ≡ true → has_crowded_side m c ≡ true
-crowded_at m c u v f up =
-    let a = runs_up_twice m c.first c.second in
-    let b = runs_up_twice m c.second c.third in
-    let d = runs_up_twice m c.third c.first in
-    ⊎_elim
-    (λ two. or_first (a || b) d (⊎_elim
-    (λ one. or_first a b (side_at m c.first c.second u v one up))
-    (λ one. or_second a b (side_at m c.second c.third u v one up))
-    (or_either (c.first == u && c.second == v) (c.second == u && c.third == v) two)))
-    (λ one. or_second (a || b) d (side_at m c.third c.first u v one up))
-    (or_either ((c.first == u && c.second == v) || (c.second == u && c.third == v)) (c.third == u && c.first == v) f)
-
-module _ (m : Mesh) (none : AllByRecursion (λ (e : ℕ × Corners). has_crowded_side m e.1 ≡ false) (finite.entries m.faces)) where
-  uncrowded : (u v : ℕ) → nat_lt u v ≡ true → nat_lt 1 (runs m u v) ≡ false
-  uncrowded u v up = by_test (nat_lt 1 (runs m u v)) refl
-    where
-      by_test : (b : Bool) → nat_lt 1 (runs m u v) ≡ b → b ≡ false
-      by_test true is =
-          let face = running_face m u v (some (runs m u v) is) in
-          let crowded = crowded_at m (face.0).1 u v face.1 (and_both (nat_lt u v) (nat_lt 1 (runs m u v)) up is) in
-          let free = at_key (λ e. has_crowded_side m e.1 ≡ false) m.faces (face.0).0 (face.0).1 none face.2 in
-          absurd (false≢true (sym free ∙ crowded))
-      by_test false is = refl
-
 rising : (ids : List ℕ) → AllByRecursion (λ (e : ℕ × ℕ). nat_lt e.0 e.1 ≡ true) (id_pairs ids)
 rising ids =
     let P : ℕ × ℕ → Type 0 = λ e. nat_lt e.0 e.1 ≡ true in
@@ -94,14 +58,18 @@ rising ids =
     (λ u. all_mapped P (λ (v : ℕ). (u, v)) (filter (λ v. nat_lt u v) ids)
     (all_filtered (λ v. nat_lt u v ≡ true) (λ v. nat_lt u v) ids (all_always (λ v. nat_lt u v ≡ true → nat_lt u v ≡ true) ids (λ v h. h)))))
 
-pub none_crowded : (m : Mesh) → list_any (λ c. has_crowded_side m c) (each_corners m) ≡ false → crowded_edges m ≡ 0
-none_crowded m h =
+second_false : (a b : Bool) → a ≡ true → (a && b) ≡ false → b ≡ false
+second_false true b h both = both
+second_false false b h both = cc
+
+pub none_crowded : (m : Mesh) → ((u v : ℕ) → runs_up_twice m u v ≡ false) → crowded_edges m ≡ 0
+none_crowded m none =
     let P : ℕ × ℕ → Type 0 = λ e. nat_lt 1 (runs m e.0 e.1) ≡ false in
     let ids = finite.keys m.points in
-    let none = none_of (λ c. has_crowded_side m c) (finite.entries m.faces) h in
     none_counted (λ (e : ℕ × ℕ). nat_lt 1 (runs m e.0 e.1)) (edges m)
     (all_filtered P (λ e. is_edge m e.0 e.1) (id_pairs ids)
-    (all_weaker (λ (e : ℕ × ℕ). nat_lt e.0 e.1 ≡ true) (λ e. is_edge m e.0 e.1 ≡ true → P e) (id_pairs ids) (λ e up there. uncrowded m none e.0 e.1 up) (rising ids)))
+    (all_weaker (λ (e : ℕ × ℕ). nat_lt e.0 e.1 ≡ true) (λ e. is_edge m e.0 e.1 ≡ true → P e) (id_pairs ids)
+    (λ e up there. second_false (nat_lt e.0 e.1) (nat_lt 1 (runs m e.0 e.1)) up (none e.0 e.1)) (rising ids)))
 
 -- ---- a face that has the corners runs from the first to the second
 weaker : (x y z p q r : Bool) → (x || y || z) ≡ false → ((x && p) || (y && q) || (z && r)) ≡ false

@@ -7,4 +7,6 @@ pub mod Outcomes
 pub mod Headline
 pub mod Complete
 pub mod Surface
+pub mod Marks
+pub mod Places
 pub mod Ending

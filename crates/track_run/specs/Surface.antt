@@ -47,11 +47,6 @@ surface_facts m = record {
 abbrev pub runs_up_twice : Mesh → ℕ → ℕ → Bool
 runs_up_twice m u v = nat_lt u v && nat_lt 1 (runs m u v)
 
--- whether more than one face runs up along a side of these corners
-abbrev pub has_crowded_side : Mesh → Corners → Bool
-has_crowded_side m c =
-    runs_up_twice m c.first c.second || runs_up_twice m c.second c.third || runs_up_twice m c.third c.first
-
 -- whether two of three are so
 abbrev pub most : Bool → Bool → Bool → Bool
 most a b c = (a && b) || (b && c) || (c && a)

@@ -5,6 +5,7 @@
 
 mod ending;
 pub mod laws;
+mod listed_volume;
 mod outcome;
 mod surface_facts;
 mod top;

@@ -1,18 +1,22 @@
 //! What may be amiss in the surface of a mesh, told from the mesh itself.
-ghost use Rattle.std.specs.Prelude.{◌≡◌, ◌&&◌, ◌||◌, ◌==◌, ℕ, false, nat_lt, map, slice_get, IfOk};
+ghost use Rattle.std.specs.Prelude.{◌≡◌, ◌&&◌, ◌||◌, ◌==◌, ◌<◌, ◌≤◌, ◌^◌, ℕ, false, nat_lt, map, slice_get, IfOk};
 ghost use Rattle.std.specs.Option.{option_map_or};
 ghost use Rattle.std.specs.List.{count_by, list_any};
 ghost use Rattle.mesh_base.specs.Sides.{runs, faces_running};
 ghost use Rattle.edit_base.specs.Edges.{corners_at};
 ghost use Rattle.track_run.specs.Surface.{each_corners, crowded_edges, opposite_faces, backward, has_opposite, surface_facts};
-ghost use Rattle.track_run.specs.Surface.{runs_up_twice, has_crowded_side, rises, is_there_at, stands};
+ghost use Rattle.track_run.specs.Surface.{runs_up_twice, rises, is_there_at, stands};
+ghost use Rattle.track_run.specs.Marks.{is_marked, HasMark, corner_number, side_place, IsMet, AreMet, face_place, AreOppositesMarked};
 
+use crate::listed_volume::is_inside_out;
 use edit_acts::{are_equal, corners_at};
 use grid_base::NoMemory;
 use mesh_base::{Corners, FaceId, Surface, VertexId, edges_in_order, live_faces};
-use mesh_measure::volume6;
 use outside_io::SurfaceFacts;
 use std::alloc::Global;
+
+// A table of marks has so many places for each face: a mark that two sides or faces share costs a question to the mesh.
+const PLACES_FOR_EACH: usize = 8;
 
 // The corners of some faces.
 fn corners_of_each<S: Surface>(
@@ -45,21 +49,111 @@ fn runs_up_twice<S: Surface>(mesh: &S, u: VertexId, v: VertexId) -> bool
     u.0 < v.0 && mesh.runs(u, v) > 1
 }
 
-// Whether more than one face runs up along a side of these corners.
-fn has_crowded_side<S: Surface>(mesh: &S, c: &Corners) -> bool
-    ensures { result ≡ has_crowded_side (S.mesh mesh.now) c.now }
+// Whether a place of a table has a mark; one outside has.
+#[inline(always)]
+fn is_marked(marks: &Vec<bool>, place: usize) -> bool
+    ensures { result ≡ is_marked marks.now.items place }
 {
-    runs_up_twice(mesh, c.first, c.second)
-        || runs_up_twice(mesh, c.second, c.third)
-        || runs_up_twice(mesh, c.third, c.first)
+    match marks.get(place) {
+        Some(mark) => *mark,
+        None => true,
+    }
 }
 
-// Whether more than one face runs up along a side of some faces.
-fn have_crowded_side<S: Surface>(mesh: &S, faces: &[Corners]) -> bool
-    ensures { result ≡ list_any (λ c. has_crowded_side (S.mesh mesh.now) c) faces.now }
+// Puts a mark at a place of a table.
+#[inline(always)]
+fn put_mark(marks: &mut Vec<bool>, place: usize)
+    ensures { HasMark marks.old.items place marks.new.items }
+{
+    if place < marks.len() {
+        marks[place] = true;
+    }
+}
+
+// A number for a corner.
+#[inline(always)]
+fn corner_number(v: VertexId) -> u64
+    ensures value { result ≡ corner_number v }
+    ensures size { result ≤ 2 ^ 62 }
+{
+    u64::from(v.0) * u64::from(v.0) / 4
+}
+
+// How many places a table of marks has.
+fn places_for(faces: &[Corners]) -> usize
+    ensures { 0 < result }
+{
+    faces.len().saturating_mul(PLACES_FOR_EACH).max(1)
+}
+
+// Where a side has its mark, of so many places.
+#[inline(always)]
+fn side_place(places: usize, u: VertexId, v: VertexId) -> usize
+    requires { 0 < places }
+    ensures { result ≡ side_place places u v }
+{
+    ((corner_number(u) + u64::from(v.0)) % places as u64) as usize
+}
+
+// Marks a side, if it runs up; whether more than one face runs along it then. The mesh is asked only where there was a mark.
+#[inline(always)]
+#[tactic(auto, using(crate::proofs::FirstSides::met_down, crate::proofs::FirstSides::met_again, crate::proofs::FirstSides::met_first))]
+fn is_met_twice<S: Surface>(
+    mesh: &S,
+    marks: &mut Vec<bool>,
+    places: usize,
+    u: VertexId,
+    v: VertexId,
+) -> bool
+    requires { 0 < places }
+    ensures { result ≡ false →
+        IsMet (S.mesh mesh.now) places marks.old.items u v marks.new.items }
+{
+    if u.0 >= v.0 {
+        return false;
+    }
+    let place = side_place(places, u, v);
+    if is_marked(marks, place) {
+        return runs_up_twice(mesh, u, v);
+    }
+    put_mark(marks, place);
+    false
+}
+
+// Marks the sides of a face that run up; whether more than one face runs along one of them.
+#[inline(always)]
+fn is_side_met_twice<S: Surface>(
+    mesh: &S,
+    marks: &mut Vec<bool>,
+    places: usize,
+    c: &Corners,
+) -> bool
+    requires { 0 < places }
+    ensures { result ≡ false →
+        AreMet (S.mesh mesh.now) places marks.old.items c.now marks.new.items }
+{
+    if is_met_twice(mesh, marks, places, c.first, c.second) {
+        return true;
+    }
+    if is_met_twice(mesh, marks, places, c.second, c.third) {
+        return true;
+    }
+    is_met_twice(mesh, marks, places, c.third, c.first)
+}
+
+// Whether an edge is crowded: of two faces that run up along it the second finds the mark of the first.
+fn is_one_crowded<S: Surface>(
+    mesh: &S,
+    marks: &mut Vec<bool>,
+    places: usize,
+    faces: &[Corners],
+) -> bool
+    requires some { 0 < places }
+    requires faces { faces.now ≡ each_corners (S.mesh mesh.now) }
+    ensures { result ≡ false → crowded_edges (S.mesh mesh.now) ≡ 0 }
 {
     for c in faces {
-        if has_crowded_side(mesh, c) {
+        if is_side_met_twice(mesh, marks, places, c) {
             return true;
         }
     }
@@ -73,12 +167,15 @@ fn crowded_among<S: Surface>(mesh: &S, edges: &[(VertexId, VertexId)]) -> usize
     edges.iter().filter(|e| mesh.runs(e.0, e.1) > 1).count()
 }
 
-// How many edges are crowded. Takes memory only where one is.
+// How many edges are crowded.
 fn crowded_edges<S: Surface>(alloc: Global, mesh: &S, faces: &[Corners]) -> Result<usize, NoMemory>
     requires { faces.now ≡ each_corners (S.mesh mesh.now) }
     ensures { IfOk result (λ n. n ≡ crowded_edges (S.mesh mesh.now)) }
 {
-    if !have_crowded_side(mesh, faces) {
+    let places = places_for(faces);
+    let mut marks = Vec::new(alloc);
+    marks.resize(places, false)?;
+    if !is_one_crowded(mesh, &mut marks, places, faces) {
         return Ok(0);
     }
     let edges = edges_in_order(alloc, mesh)?;
@@ -133,28 +230,73 @@ fn rises(c: &Corners) -> bool
     up && on || on && back || back && up
 }
 
+// Where the corners have their mark, of so many places: where those the other way round have it.
+#[inline(always)]
+fn face_place(places: usize, c: &Corners) -> usize
+    requires { 0 < places }
+    ensures { result ≡ face_place places c.now }
+{
+    let sum = corner_number(c.first) + corner_number(c.second) + corner_number(c.third);
+    (sum % places as u64) as usize
+}
+
+// Marks the faces that do not rise: the opposites of all that do are among them.
+fn mark_faces(marks: &mut Vec<bool>, places: usize, faces: &[Corners])
+    requires { 0 < places }
+    ensures { AreOppositesMarked places faces.now marks.new.items }
+{
+    for c in faces {
+        if !rises(c) {
+            put_mark(marks, face_place(places, c));
+        }
+    }
+}
+
+// Whether the corners rise and have an opposite. The mesh is asked only where there is a mark.
+#[inline(always)]
+fn rises_opposed<S: Surface>(mesh: &S, marks: &Vec<bool>, places: usize, c: &Corners) -> bool
+    requires some { 0 < places }
+    requires marked { AreOppositesMarked places (each_corners (S.mesh mesh.now)) marks.now.items }
+    ensures { result ≡ rises c.now && has_opposite (S.mesh mesh.now) c.now }
+{
+    rises(c) && is_marked(marks, face_place(places, c)) && has_opposite(mesh, c)
+}
+
 // Whether one of some faces rises and has an opposite.
-fn have_opposite<S: Surface>(mesh: &S, faces: &[Corners]) -> bool
+fn have_opposite<S: Surface>(mesh: &S, marks: &Vec<bool>, places: usize, faces: &[Corners]) -> bool
+    requires some { 0 < places }
+    requires marked { AreOppositesMarked places (each_corners (S.mesh mesh.now)) marks.now.items }
     ensures { let m = S.mesh mesh.now in
         result ≡ list_any (λ c. rises c && has_opposite m c) faces.now }
 {
     for c in faces {
-        if rises(c) && has_opposite(mesh, c) {
+        if rises_opposed(mesh, marks, places, c) {
             return true;
         }
     }
     false
 }
 
-// How many faces have an opposite. Where no face that rises has one, none has.
-fn opposite_faces<S: Surface>(mesh: &S, faces: &[Corners]) -> usize
-    requires { faces.now ≡ each_corners (S.mesh mesh.now) }
-    ensures { result ≡ opposite_faces (S.mesh mesh.now) }
+// How many of some faces have an opposite.
+fn opposed_among<S: Surface>(mesh: &S, faces: &[Corners]) -> usize
+    ensures { result ≡ count_by (λ c. has_opposite (S.mesh mesh.now) c) faces.now }
 {
-    if !have_opposite(mesh, faces) {
-        return 0;
-    }
     faces.iter().filter(|c| has_opposite(mesh, *c)).count()
+}
+
+// How many faces have an opposite. Where no face that rises has one, none has.
+fn opposite_faces<S: Surface>(alloc: Global, mesh: &S, faces: &[Corners]) -> Result<usize, NoMemory>
+    requires { faces.now ≡ each_corners (S.mesh mesh.now) }
+    ensures { IfOk result (λ n. n ≡ opposite_faces (S.mesh mesh.now)) }
+{
+    let places = places_for(faces);
+    let mut marks = Vec::new(alloc);
+    marks.resize(places, false)?;
+    mark_faces(&mut marks, places, faces);
+    if !have_opposite(mesh, &marks, places, faces) {
+        return Ok(0);
+    }
+    Ok(opposed_among(mesh, faces))
 }
 
 /// What may be amiss in the surface of a mesh. Where nothing is, time is taken in proportion to the faces and to those at a vertex, as far as
@@ -164,10 +306,12 @@ pub(crate) fn surface_facts<S: Surface>(alloc: Global, mesh: &S) -> Result<Surfa
 {
     let faces = each_corners(alloc, mesh)?;
     let crowded = crowded_edges(alloc, mesh, faces.as_slice())?;
+    let opposite = opposite_faces(alloc, mesh, faces.as_slice())?;
+    let is_inside_out = is_inside_out(alloc, mesh, faces.as_slice())?;
     Ok(SurfaceFacts {
         is_empty: mesh.vertices() == 0,
-        is_inside_out: volume6(mesh) < 0,
+        is_inside_out,
         crowded: crowded as u64,
-        opposite: opposite_faces(mesh, faces.as_slice()) as u64,
+        opposite: opposite as u64,
     })
 }
