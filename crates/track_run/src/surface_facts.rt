@@ -16,7 +16,7 @@ use outside_io::SurfaceFacts;
 use std::alloc::Global;
 
 // A table of marks has so many places for each face: a mark that two sides or faces share costs a question to the mesh.
-const PLACES_FOR_EACH: usize = 8;
+const PLACES_FOR_EACH: usize = 32;
 
 // The corners of some faces.
 fn corners_of_each<S: Surface>(
