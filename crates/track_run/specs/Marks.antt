@@ -18,11 +18,15 @@ pub record HasMark (old : List Bool) (place : ℕ) (new : List Bool) : Type 0 wh
 
 -- a number for a corner, such that the sums of three differ mostly
 abbrev pub corner_number : ℕ → ℕ
-corner_number v = v * v / 4
+corner_number v = (v % 1048573) * (v % 1048573) * (v % 1048573)
+
+-- a number for the lower end of a side
+abbrev pub end_number : ℕ → ℕ
+end_number v = v * v / 4
 
 -- where a side has its mark, of so many places
 abbrev pub side_place : ℕ → ℕ → ℕ → ℕ
-side_place places u v = (corner_number u + v) % places
+side_place places u v = (end_number u + v) % places
 
 -- a side has its mark, and had none if more than one face runs up along it
 pub record IsMet (m : Mesh) (places : ℕ) (old : List Bool) (u v : ℕ) (new : List Bool) : Type 0 where

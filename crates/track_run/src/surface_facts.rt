@@ -6,7 +6,7 @@ ghost use Rattle.mesh_base.specs.Sides.{runs, faces_running};
 ghost use Rattle.edit_base.specs.Edges.{corners_at};
 ghost use Rattle.track_run.specs.Surface.{each_corners, crowded_edges, opposite_faces, backward, has_opposite, surface_facts};
 ghost use Rattle.track_run.specs.Surface.{runs_up_twice, rises, is_there_at, stands};
-ghost use Rattle.track_run.specs.Marks.{is_marked, HasMark, corner_number, side_place, IsMet, AreMet, face_place, AreOppositesMarked};
+ghost use Rattle.track_run.specs.Marks.{is_marked, HasMark, end_number, corner_number, side_place, IsMet, AreMet, face_place, AreOppositesMarked};
 
 use crate::listed_volume::is_inside_out;
 use edit_acts::{are_equal, corners_at};
@@ -17,6 +17,8 @@ use std::alloc::Global;
 
 // A table of marks has so many places for each face: a mark that two sides or faces share costs a question to the mesh.
 const PLACES_FOR_EACH: usize = 32;
+// A prime number.
+const CORNER_NUMBERS: u64 = 1_048_573;
 
 // The corners of some faces.
 fn corners_of_each<S: Surface>(
@@ -70,20 +72,20 @@ fn put_mark(marks: &mut Vec<bool>, place: usize)
     }
 }
 
-// A number for a corner.
-#[inline(always)]
-fn corner_number(v: VertexId) -> u64
-    ensures value { result ≡ corner_number v }
-    ensures size { result ≤ 2 ^ 62 }
-{
-    u64::from(v.0) * u64::from(v.0) / 4
-}
-
 // How many places a table of marks has.
 fn places_for(faces: &[Corners]) -> usize
     ensures { 0 < result }
 {
     faces.len().saturating_mul(PLACES_FOR_EACH).max(1)
+}
+
+// A number for the lower end of a side.
+#[inline(always)]
+fn end_number(v: VertexId) -> u64
+    ensures value { result ≡ end_number v }
+    ensures size { result ≤ 2 ^ 62 }
+{
+    u64::from(v.0) * u64::from(v.0) / 4
 }
 
 // Where a side has its mark, of so many places.
@@ -92,7 +94,7 @@ fn side_place(places: usize, u: VertexId, v: VertexId) -> usize
     requires { 0 < places }
     ensures { result ≡ side_place places u v }
 {
-    ((corner_number(u) + u64::from(v.0)) % places as u64) as usize
+    ((end_number(u) + u64::from(v.0)) % places as u64) as usize
 }
 
 // Marks a side, if it runs up; whether more than one face runs along it then. The mesh is asked only where there was a mark.
@@ -228,6 +230,16 @@ fn rises(c: &Corners) -> bool
     let on = c.second.0 < c.third.0;
     let back = c.third.0 < c.first.0;
     up && on || on && back || back && up
+}
+
+// A number for a corner. Sums of squares would be alike in the two kinds of faces of a regular mesh.
+#[inline(always)]
+fn corner_number(v: VertexId) -> u64
+    ensures value { result ≡ corner_number v }
+    ensures size { result ≤ 2 ^ 62 }
+{
+    let rest = u64::from(v.0) % CORNER_NUMBERS;
+    rest * rest * rest
 }
 
 // Where the corners have their mark, of so many places: where those the other way round have it.
