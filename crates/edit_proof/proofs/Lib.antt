@@ -2,4 +2,3 @@ pub mod Beside
 pub mod Certifying
 pub mod Enough
 pub mod Kept
-pub mod Reached

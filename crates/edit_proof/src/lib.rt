@@ -6,7 +6,6 @@ mod edits;
 mod faces;
 mod local;
 mod near;
-mod reach;
 
 pub use edits::{certify_edit, judge_edit};
 pub use local::{accepts_near, certify_near};

@@ -6,7 +6,7 @@ ghost use Rattle.edit_check.specs.Reach.{faces_in_reach};
 ghost use Rattle.edit_check.specs.Untouched.{IsClearWhereUntouched};
 
 use crate::faces::faces_along;
-use crate::reach::reach_of;
+use edit_check::reach_of;
 use grid_base::{Extent, NoMemory, Wide};
 use mesh_base::{FaceId, Surface, sides_in_order};
 use motion_proof::{Names, Way, needing_along};
@@ -51,7 +51,7 @@ pub(crate) fn needing_near<S: Surface>(
     ensures { let m = S.mesh going.now.mesh.now in
         IfOk result (λ names. names ≡ needing m (motion_by m going.now.moves.now)) }
 {
-    let reach = reach_of(alloc, going, fresh_from)?;
+    let reach = reach_of(alloc, going, &[], fresh_from)?;
     let mut near = Vec::new(alloc);
     find_near(going.mesh, reach, &mut near)?;
     let faces = faces_along(alloc, going, near.as_slice())?;
