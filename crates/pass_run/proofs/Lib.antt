@@ -4,6 +4,9 @@ pub mod Stages
 pub mod SolidEdits
 pub mod Keeping
 pub mod FarApart
+pub mod Chains
+pub mod Between
+pub mod EndShared
 pub mod NearPairs
 pub mod NearPlaces
 pub mod Room

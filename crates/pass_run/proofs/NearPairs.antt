@@ -1,5 +1,5 @@
 -- A pass over pairs of edges loses nothing where it leaves out those that are not near.
-use Rattle.std.proofs.Common.{Bool, true, false, cond, ◌≡◌, ℕ, ◌+◌, ◌*◌, ◌<◌, ◌&&◌, List, [], ◌∷◌, ◌++◌, refl, ap, sym, ◌∙◌, subst, map, length, drop, get_or, Option, Some, None}
+use Rattle.std.proofs.Common.{Bool, true, false, cond, ◌≡◌, ℕ, ◌+◌, ◌*◌, ◌<◌, ◌&&◌, not, int_le, List, [], ◌∷◌, ◌++◌, refl, ap, sym, ◌∙◌, subst, map, length, drop, get_or, Option, Some, None}
 use Rattle.std.specs.List.{filter, flat_map}
 use Rattle.std.specs.Option.{option_map_or}
 use Rattle.grid_base.specs.Triples.{minus}
@@ -19,8 +19,12 @@ use Rattle.edit_base.specs.Edges.{Edge, edge_of, without_faces, exact_mid}
 use Rattle.edit_zip.specs.Zip.{zip_mesh, two_faces, first_rim, second_rim, turns}
 use Rattle.edit_acts.proofs.Changed.{points-with_faces, points-without_faces}
 use Rattle.log_text.specs.declared.LogLine.{LogLine}
-use Rattle.pass_run.specs.Candidates.{candidates, is_due, zip_of, with_later}
-use Rattle.pass_run.specs.Near.{is_near, near_zips}
+use Rattle.std.proofs.lemmas.Bool.{not-false}
+use Rattle.edit_zip.specs.Zip.{square}
+use Rattle.pass_run.specs.Candidates.{candidates, is_due, zip_of, with_later, squared}
+use Rattle.pass_run.specs.MidpointCells.{share_an_end}
+use Rattle.pass_run.specs.Near.{is_near, may_be_due, near_zips}
+use Rattle.pass_run.proofs.EndShared.{shared_not_ready}
 use Rattle.log_replay.specs.Replay.{at_mesh, mesh_after_lines}
 use Rattle.pass_run.specs.PassLines.{PassRules, exactly, answer_by, lines_asked, mesh_asked, lines_of, mesh_from, ends, lines_from, mesh_after_all}
 use Rattle.pass_run.specs.declared.terms.PassTerms.{PassTerms}
@@ -90,8 +94,8 @@ all_keep_points terms m e (f ∷ fs) = by_test (ends terms.grouped (lines_of (ex
     by_test false h = h ∙ one_keeps_points terms m e f
 
 -- ---- near or not
-near_by_points : (m n : Mesh) (within : ℕ) (e f : ℕ × ℕ) → n.points ≡ m.points → is_near n within e f ≡ is_near m within e f
-near_by_points m n within e f same = ap (λ ps. is_near (record m { points = ps }) within e f) same
+near_by_points : (m n : Mesh) (within : ℕ) (e f : ℕ × ℕ) → n.points ≡ m.points → may_be_due n within e f ≡ may_be_due m within e f
+near_by_points m n within e f same = ap (λ ps. may_be_due (record m { points = ps }) within e f) same
 
 off_is_not_due : (terms : PassTerms) (within : ℕ) → terms.kind ≡ kinds.Zip within → (m : Mesh) (e f : ℕ × ℕ) → is_near m within e f ≡ false → is_due m terms.kind (zip_of e f) ≡ false
 off_is_not_due terms within zips m e f off =
@@ -111,16 +115,25 @@ first_then e (f ∷ es) rest = ap (λ l. zip_of e f ∷ l) (first_then e es rest
 abbrev pub pairs_left : PassRules → Mesh → List (ℕ × ℕ) → List LogLine
 pairs_left rules m es = lines_from rules m (map (λ p. zip_of p.0 p.1) (with_later es))
 
--- what is not near is never asked in a pass that zips
-never_asked : (terms : PassTerms) (within : ℕ) → terms.kind ≡ kinds.Zip within → (m : Mesh) (e f : ℕ × ℕ) → is_near m within e f ≡ false → (exactly terms).choice m (zip_of e f) ≡ None
-never_asked terms within zips m e f off = ap (λ b. cond b (Some (zip_of e f)) None) (off_is_not_due terms within zips m e f off)
+-- what is not near, or shares an end, is never asked in a pass that zips
+never_due : (terms : PassTerms) (within : ℕ) → terms.kind ≡ kinds.Zip within → (m : Mesh) (e f : ℕ × ℕ) → may_be_due m within e f ≡ false → is_due m terms.kind (zip_of e f) ≡ false
+never_due terms within zips m e f off = by_test (is_near m within e f) refl off
+  where
+    by_test : (b : Bool) → is_near m within e f ≡ b → (b && not (share_an_end e f)) ≡ false → is_due m terms.kind (zip_of e f) ≡ false
+    by_test false near h = off_is_not_due terms within zips m e f near
+    by_test true near h =
+        ap (λ k. is_due m k (zip_of e f)) zips
+        ∙ ap (λ b. b && int_le (square (minus (exact_mid m e.0 e.1) (exact_mid m f.0 f.1))) (squared (2 * within))) (shared_not_ready m e f (not-false (share_an_end e f) h))
+
+never_asked : (terms : PassTerms) (within : ℕ) → terms.kind ≡ kinds.Zip within → (m : Mesh) (e f : ℕ × ℕ) → may_be_due m within e f ≡ false → (exactly terms).choice m (zip_of e f) ≡ None
+never_asked terms within zips m e f off = ap (λ b. cond b (Some (zip_of e f)) None) (never_due terms within zips m e f off)
 
 module _ (terms : PassTerms) (within : ℕ) (zips : terms.kind ≡ kinds.Zip within) where
   abbrev rules : PassRules
   rules = exactly terms
 
   near_lines : (m : Mesh) (e : ℕ × ℕ) (es : List (ℕ × ℕ)) → lines_from rules m (map (zip_of e) es) ≡ lines_from rules m (near_zips m within e es)
-  near_lines m e es = lines_of_due rules (zip_of e) (λ n. n.points ≡ m.points) (is_near m within e)
+  near_lines m e es = lines_of_due rules (zip_of e) (λ n. n.points ≡ m.points) (may_be_due m within e)
       (λ n f same. one_keeps_points terms n e f ∙ same)
       (λ n f same off. never_asked terms within zips n e f (near_by_points m n within e f same ∙ off))
       m refl es
@@ -150,7 +163,7 @@ pub points_stay : (terms : PassTerms) (within : ℕ) (m next : Mesh) (items : Li
 points_stay terms within m next items e all is leads =
     ap (λ n. n.points) (leads_there m (mesh_after_all (exactly terms) m all) (lines_from (exactly terms) m all) next (lines_make (exactly terms) (at_mesh m) all) leads)
     ∙ ap (λ l. (mesh_after_all (exactly terms) m l).points) is
-    ∙ all_keep_points terms m e (filter (is_near m within e) items)
+    ∙ all_keep_points terms m e (filter (may_be_due m within e) items)
 
 -- all pairs are left
 pub all_pairs_left : (rules : PassRules) (kind : PassKind) (within : ℕ) → kind ≡ kinds.Zip within → (m : Mesh) (items : List (ℕ × ℕ)) → items ≡ edges m → pairs_left rules m items ≡ lines_from rules m (candidates m kind)

@@ -1,5 +1,6 @@
 pub mod Candidates
 pub mod Places
+pub mod MidpointCells
 pub mod Near
 pub mod PassLines
 pub mod Results

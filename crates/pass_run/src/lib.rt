@@ -8,6 +8,7 @@ mod edits;
 mod faults;
 pub mod laws;
 mod lengths;
+mod midpoint_cells;
 mod near_edges;
 mod passes;
 mod places;

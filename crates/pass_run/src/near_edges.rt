@@ -1,12 +1,16 @@
-//! The pairs of edges that are near one another, found by a grid of midpoints.
+//! The pairs of edges that are near one another, found by the cells of their midpoints.
 ghost use Rattle.std.specs.Prelude.{◌≡◌, ◌+◌, ◌++◌, ◌*◌, ◌<◌, ◌≤◌, ◌≤ℤ◌, ◌-ℤ◌, ℕ, ℤ, min, drop, nat_le, unsigned_abs, Some, IfOk, OnOk};
 ghost use Rattle.grid_base.specs.Points.{is_within};
 ghost use Rattle.grid_base.specs.Triples.{Triple, IsWithin, minus};
 ghost use Rattle.grid_base.specs.declared.TheConstants.{HALF_MAX, EXTENT_MAX};
 ghost use Rattle.grid_base.specs.Ordered.{IsUnder};
-ghost use Rattle.pass_run.specs.Near.{near_zip, later_zip, later_zips, near_zips, HasEachNear, IsBoxOf, AreMidpoints};
+ghost use Rattle.edit_base.specs.Edges.{exact_mid};
+ghost use Rattle.pass_run.specs.MidpointCells.{AreCells, AreWithin, HasEachNear};
+ghost use Rattle.pass_run.specs.Near.{near_zip, later_zip, later_zips, near_zips, AreMidpoints};
 
-use cell_grid::Grid;
+use crate::midpoint_cells::{
+    EdgeTurn, MidpointCells, cells_of, is_near_along, places_wanted, share_an_end,
+};
 use edit_acts::exact_mid;
 use edit_base::Asked;
 use grid_base::{EXTENT_MAX, Extent, HALF_MAX, Items, NoMemory, Wide};
@@ -16,42 +20,7 @@ use std::alloc::Global;
 /// Edges that are asked to be zipped, in order.
 pub(crate) type Zips = Items<Asked>;
 
-/// An edge of a list at its turn, which is asked to be zipped with the later ones that are near it.
-#[derive(Clone, Copy)]
-pub(crate) struct EdgeTurn<'e> {
-    /// How far apart midpoints may be, in grid units.
-    pub(crate) within: u32,
-    pub(crate) edges: &'e [(VertexId, VertexId)],
-    /// Where the edge stands in the list.
-    pub(crate) place: usize,
-    pub(crate) edge: (VertexId, VertexId),
-}
-
-/// Whether a number has at most this size.
-fn is_small(a: i128, most: u128) -> bool
-    ensures { result ≡ nat_le (unsigned_abs a) most }
-{
-    a.unsigned_abs() <= most
-}
-
-/// Whether two midpoints, in half units, are no further apart than a length along each axis.
-fn is_near_along(p: Wide, q: Wide, within: u32) -> bool
-    requires first { IsWithin HALF_MAX p }
-    requires second { IsWithin HALF_MAX q }
-    ensures { result ≡ is_within (2 * within) (minus p q) }
-{
-    let across = p.minus(q);
-    let most = 2 * u128::from(within);
-    if !is_small(across.x, most) {
-        return false;
-    }
-    if !is_small(across.y, most) {
-        return false;
-    }
-    is_small(across.z, most)
-}
-
-/// The zip of two edges, where they are near.
+/// The zip of two edges, where they are near and share no end.
 fn near_zip<S: Surface>(
     mesh: &S,
     within: u32,
@@ -60,13 +29,13 @@ fn near_zip<S: Surface>(
 ) -> Option<Asked>
     ensures { result ≡ near_zip (S.mesh mesh.now) within e (Some f) }
 {
-    if is_near_along(exact_mid(mesh, e.0, e.1), exact_mid(mesh, f.0, f.1), within) {
-        Some(Asked::Zip {
-            a: e.0,
-            b: e.1,
-            e: f.0,
-            f: f.1,
-        })
+    let (a, b) = e;
+    let (c, d) = f;
+    if share_an_end((a, b), (c, d)) {
+        return None;
+    }
+    if is_near_along(exact_mid(mesh, a, b), exact_mid(mesh, c, d), within) {
+        Some(Asked::Zip { a, b, e: c, f: d })
     } else {
         None
     }
@@ -103,14 +72,6 @@ fn put_later<S: Surface>(
         }
     }
     Ok(())
-}
-
-/// The box of one position.
-fn box_of(p: Wide) -> Extent
-    requires { IsWithin HALF_MAX p }
-    ensures { IsBoxOf p result }
-{
-    Extent { low: p, high: p }
 }
 
 /// Twice a length, or the greatest coordinate of a box where that is less.
@@ -191,45 +152,59 @@ fn box_round(p: Wide, within: u32) -> Extent
     Extent { low, high }
 }
 
-/// How long the cells of a grid of midpoints are.
+/// How long the cells of midpoints are: four times as long as midpoints may be apart, so that those near one are in eight cells at
+/// most, and mostly in three or four.
 fn cell_for(within: u32) -> u32
     ensures { 0 < result }
 {
     reach_of(within).saturating_mul(4).max(1)
 }
 
-/// A grid of the midpoints of edges, by their places in the list. Its cells are four times as long as midpoints may be apart, so that
-/// a question for those near one looks at eight cells at most, and mostly at three or four.
-pub(crate) fn midpoints<S: Surface>(
+/// The midpoints of edges, in half units.
+pub(crate) fn middles_of<S: Surface>(
     alloc: Global,
     mesh: &S,
     edges: &[(VertexId, VertexId)],
-    within: u32,
-) -> Result<Grid, NoMemory>
-    ensures { IfOk result (AreMidpoints (S.mesh mesh.now) edges.now) }
+) -> Result<Vec<Wide>, NoMemory>
+    ensures { IfOk result (λ middles. AreMidpoints (S.mesh mesh.now) edges.now middles.items) }
 {
-    let mut grid = Grid::new(alloc, cell_for(within))?;
-    for (k, e) in edges.iter().enumerate() {
-        grid.insert(k as u64, box_of(exact_mid(mesh, e.0, e.1)))?;
-    }
-    Ok(grid)
+    let middles = edges
+        .iter()
+        .map(|e| exact_mid(mesh, e.0, e.1))
+        .collect(alloc)?;
+    Ok(middles)
 }
 
-/// The zips of an edge with the later edges that are near it, in order. The list of places is one to write in.
+/// Midpoints by their cells.
+pub(crate) fn cells_for(
+    alloc: Global,
+    middles: &[Wide],
+    within: u32,
+) -> Result<MidpointCells, NoMemory>
+    requires { AreWithin middles.now }
+    ensures { IfOk result (AreCells middles.now) }
+{
+    cells_of(alloc, middles, cell_for(within))
+}
+
+/// The zips of an edge with the later edges that are near it and share no end, in order. The list of places is one to write in.
 pub(crate) fn near_pairs<S: Surface>(
     alloc: Global,
     mesh: &S,
     turn: &EdgeTurn<'_>,
-    grid: &Grid,
+    cells: &MidpointCells,
     places: &mut Vec<u64>,
 ) -> Result<Zips, NoMemory>
-    requires { AreMidpoints (S.mesh mesh.now) turn.now.edges.now grid.now }
+    requires midpoints { AreMidpoints (S.mesh mesh.now) turn.now.edges.now turn.now.middles.now }
+    requires own { let e = turn.now.edge in
+        turn.now.middle ≡ exact_mid (S.mesh mesh.now) e.0 e.1 }
+    requires cells { AreCells turn.now.middles.now cells.now }
+    requires within { AreWithin turn.now.middles.now }
     ensures { let t = turn.now in
         let zips = near_zips (S.mesh mesh.now) t.within t.edge (drop (t.place + 1) t.edges.now) in
         IfOk result (λ asked. asked ≡ zips) }
 {
-    let middle = exact_mid(mesh, turn.edge.0, turn.edge.1);
-    grid.overlapping(box_round(middle, turn.within), places)?;
+    places_wanted(cells, box_round(turn.middle, turn.within), turn, places)?;
     let mut asked = Zips::new(alloc);
     put_later(mesh, turn, places.as_slice(), &mut asked)?;
     Ok(asked)

@@ -15,7 +15,8 @@ use crate::candidates::pinches;
 use crate::chooser::Chooses;
 use crate::edge_pass::take_edges;
 use crate::faults::PassFault;
-use crate::near_edges::{EdgeTurn, midpoints, near_pairs};
+use crate::midpoint_cells::{EdgeTurn, middle_at};
+use crate::near_edges::{cells_for, middles_of, near_pairs};
 use crate::terms::{PassTerms, Turns};
 use crate::turns::line_of_call;
 use edit_base::{Asked, PassKind};
@@ -185,7 +186,9 @@ fn take_pairs<S: Surface, O: Listener>(
 {
     let edges = edges_in_order(alloc, mesh)?;
     let edges = edges.as_slice();
-    let grid = midpoints(alloc, mesh, edges, within)?;
+    let middles = middles_of(alloc, mesh, edges)?;
+    let middles = middles.as_slice();
+    let cells = cells_for(alloc, middles, within)?;
     let mut places = Vec::new(alloc);
     let mut count = no_edit();
     for (i, e) in edges.iter().enumerate() {
@@ -195,10 +198,12 @@ fn take_pairs<S: Surface, O: Listener>(
         let turn = EdgeTurn {
             within,
             edges,
+            middles,
             place: i,
             edge: *e,
+            middle: middle_at(middles, i),
         };
-        let asked = near_pairs(alloc, mesh, &turn, &grid, &mut places)?;
+        let asked = near_pairs(alloc, mesh, &turn, &cells, &mut places)?;
         let more = take_asked(alloc, mesh, terms, asked.as_slice(), outside)?;
         count = sum(count, more);
     }

@@ -1,13 +1,14 @@
 use Rattle.std.proofs.Common.{◌≡◌, ◌+◌, List, length, drop, refl, ap, sym, ◌∙◌, arith}
+use Rattle.std.proofs.lemmas.Option.{slice_get_read}
 use Rattle.std.proofs.lemmas.Result.{err_from_is_err_and}
 use Rattle.mesh_base.specs.Mesh.{Mesh}
 use Rattle.log_text.specs.declared.LogLine.{LogLine}
 use Rattle.pass_run.specs.Candidates.{zip_of}
-use Rattle.pass_run.specs.Near.{is_near, near_zips}
+use Rattle.pass_run.specs.Near.{may_be_due, near_zips}
 use Rattle.pass_run.specs.PassLines.{exactly, lines_from}
 use Rattle.pass_run.proofs.Asking.{none_left}
 use Rattle.pass_run.proofs.NearPairs.{pairs_left, pairs_here, points_stay, all_pairs_left}
-use Rattle.pass_run.proofs.NearPlaces.{midpoints_stay}
+use Rattle.pass_run.proofs.NearPlaces.{middles_within, middle_there, midpoints_stay}
 use Rattle.pass_run.proofs.Room.{edges_few, near_few}
 use Rattle.pass_run.proofs.Stages.{nothing_yet, so_far_none, so_far_over, so_far_all, so_far_wanting, step_done, step_in_part}
 use Rattle.pass_run.proofs.passes.take_pairs.Goals as goal
@@ -17,9 +18,17 @@ returns-in_err-edges g c =
     let p = err_from_is_err_and c.from_residual.result c.from_residual.ensures.1 in
     rw (p.1, p.2) (nothing_yet _ _ c.requires.closed c.requires.clear)
 
-pub returns-in_err-grid : goal.returns-in_err-grid
-returns-in_err-grid g c =
-    let p = err_from_is_err_and c.from_residual-in_err-grid.result c.from_residual-in_err-grid.ensures.1 in
+pub returns-in_err-middles : goal.returns-in_err-middles
+returns-in_err-middles g c =
+    let p = err_from_is_err_and c.from_residual-in_err-middles.result c.from_residual-in_err-middles.ensures.1 in
+    rw (p.1, p.2) (nothing_yet _ _ c.requires.closed c.requires.clear)
+
+pub cells_for-requires : goal.cells_for-requires
+cells_for-requires g c = middles_within (g.S.Surface.mesh c.args.mesh.now) c.as_slice-edges.result.now c.as_slice-middles.result.now (c.as_slice-middles.ensures.value ∙ c.in_ok-middles.ensures)
+
+pub returns-in_err-cells : goal.returns-in_err-cells
+returns-in_err-cells g c =
+    let p = err_from_is_err_and c.from_residual-in_err-cells.result c.from_residual-in_err-cells.ensures.1 in
     rw (p.1, p.2) (nothing_yet _ _ c.requires.closed c.requires.clear)
 
 pub loop-i-init : goal.loop-i-init
@@ -37,8 +46,19 @@ loop-i-init g c =
 pub returns-then-is_over : goal.returns-then-is_over
 returns-then-is_over g c = so_far_over _ _ c.args.terms.grouped _ _ c.loop-i.count c.loop-i.invariant.so_far (sym c.is_over.ensures ∙ c.if-is_over.true)
 
-pub near_pairs-requires : goal.near_pairs-requires
-near_pairs-requires g c = midpoints_stay (g.S.Surface.mesh c.args.mesh.now) (g.S.Surface.mesh c.loop-i.mesh) c.as_slice-edges.result.now _ c.loop-i.invariant.points c.in_ok-grid.ensures
+pub near_pairs-requires-clause-midpoints : goal.near_pairs-requires-clause-midpoints
+near_pairs-requires-clause-midpoints g c = midpoints_stay (g.S.Surface.mesh c.args.mesh.now) (g.S.Surface.mesh c.loop-i.mesh) c.as_slice-edges.result.now c.as_slice-middles.result.now c.loop-i.invariant.points (c.as_slice-middles.ensures.value ∙ c.in_ok-middles.ensures)
+
+pub near_pairs-requires-clause-own : goal.near_pairs-requires-clause-own
+near_pairs-requires-clause-own g c =
+    let edges = c.as_slice-edges.result.now in
+    let middles = c.as_slice-middles.result.now in
+    let e = c.index-edges-i.result in
+    let stay = midpoints_stay (g.S.Surface.mesh c.args.mesh.now) (g.S.Surface.mesh c.loop-i.mesh) edges middles c.loop-i.invariant.points (c.as_slice-middles.ensures.value ∙ c.in_ok-middles.ensures) in
+    c.middle_at.ensures ∙ middle_there (g.S.Surface.mesh c.loop-i.mesh) edges middles stay c.loop-i.i e (slice_get_read edges (length edges) c.loop-i.i e refl c.loop-i-test.true c.index-edges-i.is)
+
+pub near_pairs-requires-clause-within : goal.near_pairs-requires-clause-within
+near_pairs-requires-clause-within g c = middles_within (g.S.Surface.mesh c.args.mesh.now) c.as_slice-edges.result.now c.as_slice-middles.result.now (c.as_slice-middles.ensures.value ∙ c.in_ok-middles.ensures)
 
 pub returns-in_err-asked : goal.returns-in_err-asked
 returns-in_err-asked g c =
@@ -68,7 +88,7 @@ sum-count-requires g c =
     let is : all ≡ near_zips m c.args.within e (drop (c.loop-i.i + 1) items) = c.as_slice.ensures ∙ c.in_ok-asked.ensures in
     let few = edges_few (g.S.Surface.mesh c.args.mesh.now) (g.met.S.Surface.sound c.args.mesh.now) in
     let same = ap length (c.as_slice-edges.ensures ∙ c.in_ok-edges.ensures) in
-    let fewer = near_few (zip_of e) (is_near m c.args.within e) items c.loop-i.i all c.loop-i-test.true is in
+    let fewer = near_few (zip_of e) (may_be_due m c.args.within e) items c.loop-i.i all c.loop-i-test.true is in
     omega (arith, few, same, fewer, c.in_ok-more.ensures.sum, c.loop-i.invariant.sum)
 
 pub loop-i-preserved : goal.loop-i-preserved
@@ -82,7 +102,7 @@ loop-i-preserved g c =
     let rest : Mesh → List LogLine = λ n. pairs_left rules n (drop (c.loop-i.i + 1) items) in
     let few = edges_few (g.S.Surface.mesh c.args.mesh.now) (g.met.S.Surface.sound c.args.mesh.now) in
     let same = ap length (c.as_slice-edges.ensures ∙ c.in_ok-edges.ensures) in
-    let fewer = near_few (zip_of e) (is_near m c.args.within e) items c.loop-i.i all c.loop-i-test.true is in
+    let fewer = near_few (zip_of e) (may_be_due m c.args.within e) items c.loop-i.i all c.loop-i-test.true is in
     record {
       so_far = step_done _ _ _ c.args.terms.grouped _ (lines_from rules m all) _ rest c.loop-i.count
           (pairs_here c.args.terms c.args.within c.requires.zips m items c.loop-i.i e c.loop-i-test.true c.index-edges-i.is all is)
