@@ -34,7 +34,8 @@ use Rattle.pass_run.specs.Places.{IsPlaced, HasPlaces}
 use Rattle.pass_run.specs.declared.passes.PassCount.{PassCount}
 use Rattle.pass_run.specs.declared.terms.PassTerms.{PassTerms}
 use Rattle.pass_run.specs.Results.{Stage, PassResult, exact_answer}
-use Rattle.pass_run.proofs.Asking.{asked_makes, leads_there, next_one, none_left}
+use Rattle.pass_run.proofs.Asking.{asked_makes, leads_there}
+use Rattle.pass_run.proofs.AskedTurns.{asked_left, turn_asked}
 use Rattle.pass_run.proofs.Placing.{got_inside}
 use Rattle.pass_run.proofs.Stages.{SoFar}
 
@@ -136,43 +137,7 @@ others_placed m next e places leaves has v not_first not_second q at p there =
 
 -- ---- the lines of edges that are left
 abbrev pub edges_left : PassTerms → Mesh → List (ℕ × ℕ) → List LogLine
-edges_left terms m es = lines_from (exactly terms) m (map (ask_of terms.kind) es)
-
--- one of which nothing is due has none
-skipped : (rules : PassRules) (m : Mesh) (what : Asked) (rest : List Asked) → rules.choice m what ≡ None → lines_from rules m (what ∷ rest) ≡ lines_from rules m rest
-skipped rules m what rest none = ap (λ (call : Option Asked). let here = lines_asked (answer_by rules m) call in here ++ cond (ends rules.grouped here) [] (lines_from rules (mesh_asked (answer_by rules m) m call) rest)) none ∙ nothing rules.grouped
-  where
-    nothing : (b : Bool) → cond (b && false) [] (lines_from rules m rest) ≡ lines_from rules m rest
-    nothing true = refl
-    nothing false = refl
-
-module _ (terms : PassTerms) (items : List (ℕ × ℕ)) (i : ℕ) (e : ℕ × ℕ) (inside : i < length items) (at : e ≡ get_or items i e) where
-  abbrev kind : PassKind
-  kind = terms.kind
-
-  abbrev rest : List (ℕ × ℕ)
-  rest = drop (i + 1) items
-
-  pub left_skipped : (m : Mesh) → is_due m kind (ask_of kind e) ≡ false → edges_left terms m (drop i items) ≡ edges_left terms m rest
-  left_skipped m none =
-      ap (edges_left terms m) (next_one items i e inside at)
-      ∙ skipped (exactly terms) m (ask_of kind e) (map (ask_of kind) rest) (ap (λ b. cond b (Some (ask_of kind e)) None) none)
-
-  -- those of one and then of the rest
-  pub left_taken : (m : Mesh) → (let here = lines_of (exactly terms) m (ask_of kind e) in
-      edges_left terms m (drop i items) ≡ here ++ cond (ends terms.grouped here) [] (edges_left terms (mesh_after_lines m here) rest))
-  left_taken m =
-      let here = lines_of (exactly terms) m (ask_of kind e) in
-      ap (edges_left terms m) (next_one items i e inside at)
-      ∙ ap (λ n. here ++ cond (ends terms.grouped here) [] (edges_left terms n rest)) (sym (ap (λ r. r.mesh) (asked_makes (exactly terms) (at_mesh m) (ask_of kind e))))
-
-  pub so_far_skipped : (from now : Stage) (all : List LogLine) (count : PassCount) → is_due now.mesh kind (ask_of kind e) ≡ false
-      → SoFar from now terms.grouped (edges_left terms now.mesh (drop i items)) all count → SoFar from now terms.grouped (edges_left terms now.mesh rest) all count
-  so_far_skipped from now all count none s = subst (λ left. SoFar from now terms.grouped left all count) (left_skipped now.mesh none) s
-
--- where none is left
-pub none_of_edges : (terms : PassTerms) (m : Mesh) (items : List (ℕ × ℕ)) (i : ℕ) → length items ≤ i → edges_left terms m (drop i items) ≡ []
-none_of_edges terms m items i over = ap (edges_left terms m) (none_left items i over)
+edges_left terms m es = asked_left (ask_of terms.kind) terms m es
 
 -- ---- the turn of an edge
 module _ (terms : PassTerms) (e : ℕ × ℕ) (old new : Stage) where
@@ -184,7 +149,7 @@ module _ (terms : PassTerms) (e : ℕ × ℕ) (old new : Stage) where
 
   -- what is chosen is asked
   pub turn_result : (r : Result PassCount Stop) (asked : Asked) (call : Option Asked) → asked ≡ what → call ≡ choice_in terms.kind old.mesh asked → PassResult (lines_asked (exact_answer terms.depth old.mesh) call) old new r → TurnResult r
-  turn_result r asked call is chosen h = subst (λ o. PassResult (lines_asked (exact_answer terms.depth old.mesh) o) old new r) (chosen ∙ ap (choice_in terms.kind old.mesh) is) h
+  turn_result r asked call is chosen h = turn_asked terms what old new r asked call is chosen h
 
   module _ (count : PassCount) (result : TurnResult (Ok count)) where
     leaves : LeavesOthers old.mesh e new.mesh

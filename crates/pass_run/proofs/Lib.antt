@@ -17,7 +17,9 @@ pub mod Turning
 pub mod Chosen
 pub mod Squares
 pub mod Placing
+pub mod AskedTurns
 pub mod EdgeTurns
+pub mod RimChains
 pub mod Fitted
 pub mod Again
 pub mod Edited

@@ -2,6 +2,7 @@ pub mod Candidates
 pub mod Places
 pub mod MidpointCells
 pub mod Near
+pub mod VertexRims
 pub mod PassLines
 pub mod Results
 pub mod Turns

@@ -1,10 +1,10 @@
 //! What a pass asks, in order, where it is listed at its start.
 ghost use Rattle.std.specs.Prelude.{◌≡◌, IfOk};
-ghost use Rattle.pass_run.specs.Candidates.{all_splits, all_pinches};
+ghost use Rattle.pass_run.specs.Candidates.{all_splits};
 
 use edit_base::Asked;
 use grid_base::NoMemory;
-use mesh_base::{Surface, edges_in_order, live_vertices};
+use mesh_base::{Surface, edges_in_order};
 use std::alloc::Global;
 
 /// The splits of all edges.
@@ -16,19 +16,6 @@ pub(crate) fn splits<S: Surface>(alloc: Global, mesh: &S) -> Result<Vec<Asked>, 
         .as_slice()
         .iter()
         .map(|e| Asked::Split { a: e.0, b: e.1 })
-        .collect(alloc)?;
-    Ok(asked)
-}
-
-/// The pinches of all vertices.
-pub(crate) fn pinches<S: Surface>(alloc: Global, mesh: &S) -> Result<Vec<Asked>, NoMemory>
-    ensures { IfOk result (λ found. found.items ≡ all_pinches (S.mesh mesh.now)) }
-{
-    let vertices = live_vertices(alloc, mesh)?;
-    let asked = vertices
-        .as_slice()
-        .iter()
-        .map(|v| Asked::Pinch { v: *v })
         .collect(alloc)?;
     Ok(asked)
 }

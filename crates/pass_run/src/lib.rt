@@ -15,6 +15,8 @@ mod places;
 mod sizing_pass;
 mod terms;
 mod turns;
+mod vertex_pass;
+mod vertex_rims;
 
 pub use edits::{Answers, EditTerms, edits_to};
 pub use faults::PassFault;

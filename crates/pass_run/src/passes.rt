@@ -11,7 +11,6 @@ ghost use Rattle.pass_run.specs.Results.{exact_answer};
 ghost use Rattle.pass_run.specs.Turns.{TakesTurns};
 ghost use Rattle.pass_run.specs.Calls.{stage_before, stage_after, PassTells, LinesKeep, SinkHas};
 
-use crate::candidates::pinches;
 use crate::chooser::Chooses;
 use crate::edge_pass::take_edges;
 use crate::faults::PassFault;
@@ -19,6 +18,7 @@ use crate::midpoint_cells::{EdgeTurn, middle_at};
 use crate::near_edges::{cells_for, middles_of, near_pairs};
 use crate::terms::{PassTerms, Turns};
 use crate::turns::line_of_call;
+use crate::vertex_pass::take_vertices;
 use edit_base::{Asked, PassKind};
 use grid_base::DEPTH_MAX;
 use log_text::LogLine;
@@ -228,10 +228,7 @@ fn take_all<S: Surface, O: Listener>(
             take_edges(alloc, mesh, terms, outside)
         }
         PassKind::Zip { within } => take_pairs(alloc, mesh, terms, within, outside),
-        PassKind::Pinch => {
-            let asked = pinches(alloc, mesh)?;
-            take_asked(alloc, mesh, terms, asked.as_slice(), outside)
-        }
+        PassKind::Pinch => take_vertices(alloc, mesh, terms, outside),
     }
 }
 

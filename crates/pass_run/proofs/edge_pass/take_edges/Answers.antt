@@ -4,7 +4,8 @@ use Rattle.mesh_base.specs.Mesh.{Mesh}
 use Rattle.log_text.specs.declared.LogLine.{LogLine}
 use Rattle.pass_run.specs.Candidates.{ask_of}
 use Rattle.pass_run.specs.PassLines.{exactly, lines_of}
-use Rattle.pass_run.proofs.EdgeTurns.{edges_left, left_taken, so_far_skipped, none_of_edges}
+use Rattle.pass_run.proofs.AskedTurns.{left_taken, so_far_skipped, none_asked_left}
+use Rattle.pass_run.proofs.EdgeTurns.{edges_left}
 use Rattle.pass_run.proofs.Stages.{nothing_yet, so_far_none, so_far_over, so_far_all, step_done, step_in_part}
 use Rattle.pass_run.proofs.edge_pass.take_edges.Goals as goal
 use Rattle.pass_run.proofs.edge_pass.take_edges.Goals.{then-may_be_due+else-is_over+in_ok-more, else-may_be_due}
@@ -40,13 +41,13 @@ returns-in_err-more g c =
     let items = c.as_slice-e-items.result.now in
     let rest : Mesh → List LogLine = λ n. edges_left terms n (drop (c.loop-e.e-index + 1) items) in
     rw (p.1, p.2) (step_in_part _ _ _ terms.grouped _ (lines_of (exactly terms) m (ask_of terms.kind e)) _ rest c.loop-e.count
-    (left_taken terms items c.loop-e.e-index e c.loop-e-test.true c.e-item.is m)
+    (left_taken (ask_of terms.kind) terms items c.loop-e.e-index e c.loop-e-test.true c.e-item.is m)
     c.loop-e.invariant.so_far (sym c.is_over.ensures ∙ c.if-is_over.false) c.in_err-more.field-0.0 c.in_err-more.ensures.takes)
 
 pub returns : goal.returns
 returns g c =
     so_far_all _ _ c.args.terms.grouped _ _ c.loop-e.count c.loop-e.invariant.so_far
-    (none_of_edges c.args.terms (g.S.Surface.mesh c.loop-e.mesh) c.as_slice-e-items.result.now c.loop-e.e-index (omega (arith, c.loop-e-test.false)))
+    (none_asked_left (ask_of c.args.terms.kind) c.args.terms (g.S.Surface.mesh c.loop-e.mesh) c.as_slice-e-items.result.now c.loop-e.e-index (omega (arith, c.loop-e-test.false)))
 
 pub loop-e-preserved : goal.loop-e-preserved
 loop-e-preserved g c =
@@ -58,13 +59,13 @@ loop-e-preserved g c =
     let rest : Mesh → List LogLine = λ n. edges_left terms n (drop (i + 1) items) in
     elim c.if-may_be_due.branch [
       | then-may_be_due+else-is_over+in_ok-more w ↦ rw (w.mesh-is, w.outside-is, w.places-is, w.count-is) (record {
-        so_far = step_done _ _ _ terms.grouped _ (lines_of (exactly terms) m (ask_of terms.kind e)) _ rest c.loop-e.count (left_taken terms items i e c.loop-e-test.true c.e-item.is m)
+        so_far = step_done _ _ _ terms.grouped _ (lines_of (exactly terms) m (ask_of terms.kind e)) _ rest c.loop-e.count (left_taken (ask_of terms.kind) terms items i e c.loop-e-test.true c.e-item.is m)
             c.loop-e.invariant.so_far (sym w.is_over.ensures ∙ w.if-is_over.false) _ w.sum-count.result w.in_ok-more.ensures.takes w.sum-count.ensures.done w.sum-count.ensures.refused;
         places = w.in_ok-more.ensures.places;
         sum = omega (arith, w.in_ok-more.ensures.sum, c.loop-e.invariant.sum, w.sum-count.ensures.done, w.sum-count.ensures.refused);
       })
       | else-may_be_due w ↦ rw (w.mesh-is, w.outside-is, w.places-is, w.count-is) (record {
-        so_far = so_far_skipped terms items i e c.loop-e-test.true c.e-item.is _ _ _ c.loop-e.count (c.may_be_due.ensures w.if-may_be_due.false) c.loop-e.invariant.so_far;
+        so_far = so_far_skipped (ask_of terms.kind) terms items i e c.loop-e-test.true c.e-item.is _ _ _ c.loop-e.count (c.may_be_due.ensures w.if-may_be_due.false) c.loop-e.invariant.so_far;
         places = c.loop-e.invariant.places;
         sum = omega (arith, c.loop-e.invariant.sum);
       })
