@@ -6,7 +6,7 @@ use Rattle.log_text.specs.declared.LogLine.{LogLine}
 use Rattle.log_replay.specs.Replay.{at_mesh, mesh_after_lines}
 use Rattle.outside_io.specs.declared.stop.Stop.{Stop}
 use Rattle.pass_run.specs.Candidates.{is_due, choice_in}
-use Rattle.pass_run.specs.PassLines.{PassRules, exactly, answer_by, lines_asked, mesh_asked, lines_of, mesh_from, ends, lines_from}
+use Rattle.pass_run.specs.PassLines.{PassRules, exactly, answer_by, lines_asked, mesh_asked, lines_of, ends, lines_from}
 use Rattle.pass_run.specs.declared.passes.PassCount.{PassCount}
 use Rattle.pass_run.specs.declared.terms.PassTerms.{PassTerms}
 use Rattle.pass_run.specs.Results.{Stage, PassResult, exact_answer}

@@ -1,9 +1,8 @@
 -- A midpoint that is near has its cell between those of the corners of a box that has each near one.
-use Rattle.std.proofs.Common.{◌≡◌, ℕ, ◌+◌, ◌*◌, ◌/◌, ◌<◌, ◌≤◌, Bool, true, IsTrue, ◌&&◌, slice_get, nat_lt, ℤ, ◌≤ℤ◌, unsigned_abs, refl, sym, ap, subst, ◌∙◌, arith}
+use Rattle.std.proofs.Common.{◌≡◌, ℕ, ◌+◌, ◌*◌, ◌<◌, ◌≤◌, IsTrue, ◌&&◌, slice_get, nat_lt, ℤ, ◌≤ℤ◌, unsigned_abs, refl, sym, subst, arith}
 use Rattle.std.specs.Prelude.{slice_index_or}
-use Rattle.std.proofs.lemmas.Int.{ints}
 use Rattle.std.proofs.lemmas.Bool.{and_parts}
-use Rattle.grid_base.specs.Triples.{Triple, IsWithin, minus}
+use Rattle.grid_base.specs.Triples.{Triple, minus}
 use Rattle.grid_base.specs.Points.{is_within}
 use Rattle.grid_base.specs.Extents.{IsIn}
 use Rattle.grid_base.specs.declared.Extent.{Extent}

@@ -1,5 +1,5 @@
 -- The turns of edges. An edit of an edge leaves every other vertex where it stands.
-use Rattle.std.proofs.Common.{◌≡◌, ◌≢◌, ℕ, ◌+◌, ◌<◌, ◌≤◌, Bool, true, false, cond, ◌&&◌, ◌||◌, ◌==◌, not, min, max, List, [], ◌∷◌, ◌++◌, map, length, drop, get_or, Option, Some, None, Result, Ok, is_some, ⊎_elim, refl, sym, ap, subst, ◌∙◌, arith}
+use Rattle.std.proofs.Common.{◌≡◌, ◌≢◌, ℕ, ◌+◌, ◌<◌, ◌≤◌, Bool, true, false, cond, ◌&&◌, ◌||◌, ◌==◌, not, min, max, List, [], ◌∷◌, length, Option, Some, None, Result, Ok, is_some, ⊎_elim, refl, sym, ap, subst, ◌∙◌, arith}
 use Rattle.std.proofs.lemmas.Bool.{cases_lt}
 use Rattle.std.specs.List.{filter}
 use Rattle.std.specs.Cmp.{nat_cmp_total, unsigned_tied}
@@ -26,10 +26,10 @@ use Rattle.edit_collapse.proofs.SolidEnds.{keeps_solid_end}
 use Rattle.edit_collapse.proofs.Three.{three_cut}
 use Rattle.edit_any.specs.Dispatch.{edited}
 use Rattle.log_text.specs.declared.LogLine.{LogLine}
-use Rattle.log_replay.specs.Replay.{at_mesh, mesh_after_lines}
+use Rattle.log_replay.specs.Replay.{at_mesh}
 use Rattle.outside_io.specs.declared.stop.Stop.{Stop}
 use Rattle.pass_run.specs.Candidates.{ask_of, is_due, choice_in}
-use Rattle.pass_run.specs.PassLines.{PassRules, exactly, answer_by, lines_asked, mesh_asked, lines_of, mesh_from, ends, lines_from}
+use Rattle.pass_run.specs.PassLines.{PassRules, exactly, answer_by, lines_asked, mesh_asked, lines_of, mesh_from}
 use Rattle.pass_run.specs.Places.{IsPlaced, HasPlaces}
 use Rattle.pass_run.specs.declared.passes.PassCount.{PassCount}
 use Rattle.pass_run.specs.declared.terms.PassTerms.{PassTerms}
@@ -37,7 +37,6 @@ use Rattle.pass_run.specs.Results.{Stage, PassResult, exact_answer}
 use Rattle.pass_run.proofs.Asking.{asked_makes, leads_there}
 use Rattle.pass_run.proofs.AskedTurns.{asked_left, turn_asked}
 use Rattle.pass_run.proofs.Placing.{got_inside}
-use Rattle.pass_run.proofs.Stages.{SoFar}
 
 -- ---- what an edit of an edge leaves
 -- what is live afterwards and is no end of the edge stood there before, but for new ids

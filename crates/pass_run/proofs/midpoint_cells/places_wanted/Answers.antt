@@ -1,4 +1,4 @@
-use Rattle.std.proofs.Common.{sym, ap, subst, ◌∙◌}
+use Rattle.std.proofs.Common.{◌∙◌}
 use Rattle.pass_run.proofs.Between.{in_block}
 use Rattle.pass_run.proofs.midpoint_cells.places_wanted.Goals as goal
 

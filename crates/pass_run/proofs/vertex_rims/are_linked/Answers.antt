@@ -1,4 +1,4 @@
-use Rattle.std.proofs.Common.{◌<◌, false, IsTrue, length, get_or, sym, ap, subst, ◌∙◌, arith}
+use Rattle.std.proofs.Common.{false, IsTrue, length, get_or, sym, ap, subst, arith}
 use Rattle.pass_run.specs.VertexRims.{IsLinked}
 use Rattle.pass_run.proofs.vertex_rims.are_linked.Goals as goal
 

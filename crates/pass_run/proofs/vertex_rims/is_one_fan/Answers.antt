@@ -1,4 +1,4 @@
-use Rattle.std.proofs.Common.{List, sym, subst, ◌∙◌}
+use Rattle.std.proofs.Common.{sym, subst, ◌∙◌}
 use Rattle.pass_run.specs.VertexRims.{AreRims}
 use Rattle.pass_run.proofs.RimChains.{fan_told}
 use Rattle.pass_run.proofs.vertex_rims.is_one_fan.Goals as goal

@@ -1,4 +1,4 @@
-use Rattle.std.proofs.Common.{false, IsTrue, length, get_or, subst, ◌∙◌, arith}
+use Rattle.std.proofs.Common.{false, IsTrue, get_or, subst, ◌∙◌, arith}
 use Rattle.std.proofs.lemmas.List.{length-set}
 use Rattle.pass_run.specs.VertexRims.{IsLinked}
 use Rattle.pass_run.proofs.RimChains.{mark_set}

@@ -1,4 +1,4 @@
-use Rattle.std.proofs.Common.{ℕ, ◌+◌, ◌++◌, ◌∷◌, [], List, Some, length, get_or, slice_get, sym, ap, subst, ◌≡◌, ◌∙◌}
+use Rattle.std.proofs.Common.{ℕ, ◌+◌, ◌++◌, ◌∷◌, [], Some, length, get_or, slice_get, sym, ap, subst, ◌≡◌, ◌∙◌}
 use Rattle.std.proofs.lemmas.List.{length_push, get_or_default}
 use Rattle.mesh_base.specs.declared.ids.Corners.{Corners}
 use Rattle.edit_base.specs.Edges.{corners_at}
