@@ -10,6 +10,9 @@ use grid_base::NoMemory;
 use mesh_base::{Corners, FaceId, Surface, VertexId};
 use std::alloc::Global;
 
+/// At a vertex of more faces than this nothing is known of its fans: a round of marks takes the square of their number.
+const MANY: usize = 24;
+
 /// Two corners of a face.
 type Rim = (VertexId, VertexId);
 
@@ -109,17 +112,20 @@ fn is_beside(rims: &[Rim], marks: &[bool], k: usize) -> bool
     false
 }
 
-/// Marks each rim that meets one that is marked.
-fn join_more(rims: &[Rim], marks: &mut Vec<bool>)
+/// Marks each rim that meets one that is marked; whether there was one.
+fn join_more(rims: &[Rim], marks: &mut Vec<bool>) -> bool
     requires { AreLinked rims.now marks.old.items }
     ensures long { length marks.new.items ≡ length marks.old.items }
     ensures linked { AreLinked rims.now marks.new.items }
 {
+    let mut more = false;
     for k in 0..marks.len() {
         if !marks[k] && is_beside(rims, marks.as_slice(), k) {
             marks[k] = true;
+            more = true;
         }
     }
+    more
 }
 
 /// Marks the first of so many alone.
@@ -136,7 +142,8 @@ fn mark_first(count: usize, marks: &mut Vec<bool>) -> Result<(), NoMemory>
 
 /// Whether each is marked.
 fn are_marked(marks: &[bool]) -> bool
-    ensures { IsTrue result → (k : ℕ) → k < length marks.now → IsTrue (slice_index_or marks.now k false) }
+    ensures { IsTrue result →
+        (k : ℕ) → k < length marks.now → IsTrue (slice_index_or marks.now k false) }
 {
     for mark in marks {
         if !*mark {
@@ -155,12 +162,14 @@ fn are_linked(rims: &[Rim], marks: &mut Vec<bool>) -> Result<bool, NoMemory>
         if are_marked(marks.as_slice()) {
             return Ok(true);
         }
-        join_more(rims, marks);
+        if !join_more(rims, marks) {
+            return Ok(false);
+        }
     }
     Ok(false)
 }
 
-/// Whether the faces at a vertex are known to be one fan. Of a vertex of a manifold they are.
+/// Whether the faces at a vertex are known to be one fan. Of a vertex of a manifold they are, where they are not many.
 pub(crate) fn is_one_fan<S: Surface>(
     mesh: &S,
     v: VertexId,
@@ -169,6 +178,9 @@ pub(crate) fn is_one_fan<S: Surface>(
     ensures { IfOk result (λ one. IsTrue one → length (fans (S.mesh mesh.now) v) ≡ 1) }
 {
     mesh.faces_at(v, &mut lists.faces)?;
+    if lists.faces.len() > MANY {
+        return Ok(false);
+    }
     if !put_rims(mesh, v, lists.faces.as_slice(), &mut lists.rims)? {
         return Ok(false);
     }
