@@ -6,9 +6,11 @@ mod edit_values;
 pub mod laws;
 mod lines;
 mod listed;
+mod log_lines;
 mod parser;
 mod refusals;
 mod values;
 
+pub use log_lines::LogLines;
 pub use parser::read_log;
 pub use values::pair_at;
