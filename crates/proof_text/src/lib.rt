@@ -1,6 +1,7 @@
 //! The text of certificates: how it is read and printed.
 #![tactic(auto)]
 
+mod first_fault;
 pub mod laws;
 mod lines;
 mod nodes;

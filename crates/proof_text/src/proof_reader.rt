@@ -7,7 +7,8 @@ ghost use Rattle.proof_text.specs.Laws.{AreProofs, IsGood};
 ghost use Rattle.proof_text.specs.Order as spec;
 ghost use Rattle.proof_text.specs.Views.{proofs_view, state_view};
 
-use crate::parser::{add_line, check_proof, read_proof};
+use crate::first_fault::check_proof;
+use crate::parser::{add_line, read_proof};
 use crate::proof_at::{ProofAt, Proofs};
 use crate::reader::{ReadOn, State};
 use grid_base::NoMemory;

@@ -9,7 +9,7 @@ ghost use Rattle.track_log.specs.Preparing.{ReadsLines, ReadsTexts, Tests, Reads
 use crate::refusal::LogRefusal;
 use grid_base::NoMemory;
 use line_text::ReadFault;
-use log_read::LogLines;
+use log_read::LogReader;
 use log_text::Refusal;
 use mesh_base::{FileWord, MeshLists, Scale, ShapeRefusal};
 use mesh_journal::JournalMesh;
@@ -35,7 +35,7 @@ pub enum Texts {
     /// The first refusal that applies: the mesh's text, its shape, the log's text.
     No(LogRefusal),
     /// Lists of good shape, and the lines of the log.
-    Yes(MeshLists, LogLines),
+    Yes(MeshLists, LogReader),
 }
 
 /// What is given of which nothing is refused before the lines of the log are taken, or the first refusal that applies.
@@ -44,7 +44,7 @@ pub enum PreparedLog {
     /// The first refusal that applies, in the order in which the work is done.
     No(LogRefusal),
     /// The mesh, of which no edge meets a face that shares no vertex with it, and the lines of the log.
-    Yes(JournalMesh, LogLines),
+    Yes(JournalMesh, LogReader),
 }
 
 // The text of a log, read after lists of good shape.
@@ -58,7 +58,7 @@ fn read_lines(
     requires log_length { length log.items ≤ TEXT_MAX }
     ensures { IfOk result (ReadsLines scale lists log.items) }
 {
-    match LogLines::of(alloc, scale, log) {
+    match LogReader::of(alloc, scale, log) {
         Ok(lines) => Ok(Texts::Yes(lists, lines)),
         Err(ReadFault::NoMemory) => Err(NoMemory),
         Err(ReadFault::Text(fault)) => Ok(Texts::No(LogRefusal::Log(fault))),
@@ -101,7 +101,7 @@ pub fn test_mesh(
     alloc: Global,
     scale: Scale,
     lists: &MeshLists,
-    lines: LogLines,
+    lines: LogReader,
 ) -> Result<PreparedLog, NoMemory>
     requires good { AreGood scale lists.now }
     ensures { IfOk result (Tests scale lists.now lines) }

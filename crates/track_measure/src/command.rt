@@ -19,7 +19,7 @@ use crate::kept_shape::line_keeps_shape;
 use crate::measures::{MeasureLine, MeshShape, measure_of_line, shape_of};
 use crate::printer::print_measure;
 use grid_base::NoMemory;
-use log_read::LogLines;
+use log_read::LogReader;
 use log_run::LogRun;
 use log_run::laws::fitting_lines_are_safe;
 use log_text::LogLine;
@@ -108,7 +108,7 @@ fn measure_line<O: Outside>(
 fn measure_each<O: Outside>(
     alloc: Global,
     run: &mut LogRun,
-    lines: &mut LogLines,
+    lines: &mut LogReader,
     outside: &mut O,
 ) -> Result<Option<LogRefusal>, Stop>
     requires fresh { run.old ≡ without_lines run.old.replay.mesh }
@@ -137,7 +137,7 @@ fn measure_each<O: Outside>(
 fn measure_lines<O: Outside>(
     alloc: Global,
     mesh: JournalMesh,
-    lines: LogLines,
+    lines: LogReader,
     outside: &mut O,
 ) -> Result<Option<LogRefusal>, Stop>
     requires valid { IsValidSurface (mesh_in mesh) }

@@ -14,7 +14,7 @@ ghost use Rattle.track_replay.specs.Headline.{Replays, ReplaysLines};
 
 use crate::mesh_files::store_line;
 use line_text::{Field, put_line};
-use log_read::LogLines;
+use log_read::LogReader;
 use log_run::LogRun;
 use log_run::laws::fitting_lines_are_safe;
 use mesh_journal::JournalMesh;
@@ -41,7 +41,7 @@ fn tell_count<O: Outside>(alloc: Global, count: u32, outside: &mut O) -> Result<
 fn replay_each<O: Outside>(
     alloc: Global,
     run: &mut LogRun,
-    lines: &mut LogLines,
+    lines: &mut LogReader,
     only: Option<u32>,
     to: Target<'_>,
     outside: &mut O,
@@ -76,7 +76,7 @@ fn replay_each<O: Outside>(
 fn replay_lines<O: Outside>(
     alloc: Global,
     mesh: JournalMesh,
-    lines: LogLines,
+    lines: LogReader,
     only: Option<u32>,
     to: Target<'_>,
     outside: &mut O,

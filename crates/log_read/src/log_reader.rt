@@ -6,8 +6,9 @@ ghost use Rattle.line_text.specs.Spellings.{spaced_words};
 ghost use Rattle.log_read.specs.Ahead.{IsAhead, ParsesFirst, TakesFirst};
 ghost use Rattle.log_read.specs.Reading as spec;
 
+use crate::first_fault::check_log;
 use crate::lines::read_line;
-use crate::parser::{check_log, read_log, version_of};
+use crate::parser::{read_log, version_of};
 use grid_base::NoMemory;
 use line_text::{ReadFault, cut_at};
 use log_text::LogLine;
@@ -22,7 +23,7 @@ const KEPT_MAX: usize = 16_777_216;
 /// The lines of a log that are to come. A text of at most 16 MiB is parsed once. A longer one is first looked through, and then each
 /// of its lines is parsed when it is taken, so that beside the text one line alone stands in memory. A contract sees the list of these lines.
 #[derive(Drop)]
-pub struct LogLines {
+pub struct LogReader {
     parsed: VecDeque<LogLine>,
     text: Vec<u8>,
     at: usize,
@@ -30,7 +31,7 @@ pub struct LogLines {
     version: u8,
 }
 
-impl Model for LogLines {
+impl Model for LogReader {
     ghost use Rattle.std.specs.Prelude.{List, ◌++◌};
     ghost use Rattle.log_text.specs.declared.LogLine.{LogLine};
 
@@ -83,16 +84,16 @@ fn line_at(
     Ok(Some((line, text.len())))
 }
 
-impl LogLines {
+impl LogReader {
     /// The lines of a log, or the first of its lines that is no spelling, with the reason, as `read_log` gives them.
-    pub fn of(alloc: Global, scale: Scale, text: Vec<u8>) -> Result<LogLines, ReadFault>
+    pub fn of(alloc: Global, scale: Scale, text: Vec<u8>) -> Result<LogReader, ReadFault>
         requires { length text.items ≤ TEXT_MAX }
         ensures { Gives (λ lines. lines) result (spec.log_of scale text.items) }
     {
         let version = version_of(&text);
         if text.len() <= KEPT_MAX {
             let log = read_log(alloc, scale, &text)?;
-            return Ok(LogLines {
+            return Ok(LogReader {
                 parsed: VecDeque::from(log.into_vec()),
                 text: Vec::new(alloc),
                 at: 0,
@@ -101,7 +102,7 @@ impl LogLines {
             });
         }
         check_log(alloc, scale, &text)?;
-        Ok(LogLines {
+        Ok(LogReader {
             parsed: VecDeque::new(alloc),
             text,
             at: 0,

@@ -3,7 +3,7 @@ use Rattle.std.specs.Prelude.{◌==◌}
 use Rattle.std.specs.List.{slice_split}
 use Rattle.proof_text.specs.Views.{state_view}
 use Rattle.proof_text.proofs.CertificatesAhead.{Checking}
-use Rattle.proof_text.proofs.parser.check_proof.Given as goal
+use Rattle.proof_text.proofs.first_fault.check_proof.Given as goal
 
 -- what has been read and the parts that are left give what the whole text gives
 abbrev pub invariant-lines : goal.invariant-lines

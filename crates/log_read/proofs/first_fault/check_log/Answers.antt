@@ -1,7 +1,7 @@
 use Rattle.std.proofs.Common.{[]}
 use Rattle.log_read.proofs.LogParts.{PartsLeft-first}
 use Rattle.log_read.proofs.LinesAhead.{checking_more, checking_fails}
-use Rattle.log_read.proofs.parser.check_log.Goals as goal
+use Rattle.log_read.proofs.first_fault.check_log.Goals as goal
 
 pub lines-init : goal.lines-init
 lines-init c = ([], PartsLeft-first c.args.scale c.version_of-version.result c.args.bytes.now c.version_of-version.ensures)

@@ -2,7 +2,7 @@ use Rattle.std.proofs.Common.{[]}
 use Rattle.proof_text.specs.Views.{state_view}
 use Rattle.proof_text.proofs.TextParts.{PartsLeft-first}
 use Rattle.proof_text.proofs.CertificatesAhead.{checking_good, checking_more, checking_fails}
-use Rattle.proof_text.proofs.parser.check_proof.Goals as goal
+use Rattle.proof_text.proofs.first_fault.check_proof.Goals as goal
 
 pub lines-init : goal.lines-init
 lines-init c = ([], PartsLeft-first c.args.bytes.now)

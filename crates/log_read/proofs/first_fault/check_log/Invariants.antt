@@ -2,7 +2,7 @@ use Rattle.std.proofs.Common.{length}
 use Rattle.std.specs.Prelude.{◌==◌}
 use Rattle.std.specs.List.{slice_split}
 use Rattle.log_read.proofs.LinesAhead.{Checking}
-use Rattle.log_read.proofs.parser.check_log.Given as goal
+use Rattle.log_read.proofs.first_fault.check_log.Given as goal
 
 -- the lines so far and the parts that are left give what the whole text gives
 abbrev pub invariant-lines : goal.invariant-lines
