@@ -11,3 +11,4 @@ pub mod LineSpellings
 pub mod GraphicWords
 pub mod Latest
 pub mod LogLaws
+pub mod LinesAhead

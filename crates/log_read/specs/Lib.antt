@@ -3,3 +3,4 @@ pub mod Values
 pub mod EditLines
 pub mod Reading
 pub mod Laws
+pub mod Ahead

@@ -3,12 +3,15 @@
 
 mod edit_lines;
 mod edit_values;
+mod first_fault;
 pub mod laws;
 mod lines;
 mod listed;
+mod log_reader;
 mod parser;
 mod refusals;
 mod values;
 
+pub use log_reader::LogReader;
 pub use parser::read_log;
 pub use values::pair_at;

@@ -60,7 +60,7 @@ fn with_last(
 }
 
 // The version by which a text is read.
-fn version_of(bytes: &[u8]) -> u8
+pub(crate) fn version_of(bytes: &[u8]) -> u8
     ensures { result ≡ spec.version_of bytes.now }
 {
     let (first, _) = cut_at(b'\n', bytes);

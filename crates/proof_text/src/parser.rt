@@ -12,7 +12,7 @@ use line_text::{ReadFault, TextFault, cut_at};
 use std::alloc::Global;
 
 // Takes the line that a part of the text spells.
-fn add_line(
+pub(crate) fn add_line(
     alloc: Global,
     motions: &mut Proofs,
     state: State,

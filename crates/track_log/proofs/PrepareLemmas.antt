@@ -200,8 +200,8 @@ module _ (files : Option Files) (names : LogNames) where
   pub short_at : (f : FetchedLog) (mesh log : Vec ℕ Global) → f ≡ fetched.Yes mesh log → FetchesLog files names f → AreShort (fetched.Yes mesh log)
   short_at f mesh log e h = subst AreShort e h.short
 
-  pub prepares_read : (f : FetchedLog) (mesh log : Vec ℕ Global) → f ≡ fetched.Yes mesh log → FetchesLog files names f → (m l : List ℕ) → m ≡ mesh.items → l ≡ log.items → (r : PreparedLog) → ReadsAndTests names.scale names.decimals m l r → PreparesLog files names r
-  prepares_read f mesh log e h m l me le r reads = record {
+  pub prepares_read : (f : FetchedLog) (mesh log : Vec ℕ Global) → f ≡ fetched.Yes mesh log → FetchesLog files names f → (m : List ℕ) → m ≡ mesh.items → (r : PreparedLog) → ReadsAndTests names.scale names.decimals m log.items r → PreparesLog files names r
+  prepares_read f mesh log e h m me r reads = record {
     job = h.job;
     is_job = h.is_job;
     input =
@@ -209,7 +209,6 @@ module _ (files : Option Files) (names : LogNames) where
         ∙ ap (λ s. input_of_read s (read_of_lists s (lists_of h.job.decimals mesh.items) log.items)) h.is_job.scale_is
         ∙ ap (λ d. input_of_read names.scale (read_of_lists names.scale (lists_of d mesh.items) log.items)) h.is_job.decimals_are
         ∙ ap (λ b. input_of_read names.scale (read_of_lists names.scale (lists_of names.decimals b) log.items)) (sym me)
-        ∙ ap (λ b. input_of_read names.scale (read_of_lists names.scale (lists_of names.decimals m) b)) (sym le)
         ∙ reads.input;
     ready = reads.ready;
   }

@@ -9,8 +9,8 @@ ghost use Rattle.track_log.specs.Preparing.{ReadsLines, ReadsTexts, Tests, Reads
 use crate::refusal::LogRefusal;
 use grid_base::NoMemory;
 use line_text::ReadFault;
-use log_read::read_log;
-use log_text::{Log, Refusal};
+use log_read::LogReader;
+use log_text::Refusal;
 use mesh_base::{FileWord, MeshLists, Scale, ShapeRefusal};
 use mesh_journal::JournalMesh;
 use mesh_shape::shape;
@@ -35,7 +35,7 @@ pub enum Texts {
     /// The first refusal that applies: the mesh's text, its shape, the log's text.
     No(LogRefusal),
     /// Lists of good shape, and the lines of the log.
-    Yes(MeshLists, Log),
+    Yes(MeshLists, LogReader),
 }
 
 /// What is given of which nothing is refused before the lines of the log are taken, or the first refusal that applies.
@@ -44,16 +44,21 @@ pub enum PreparedLog {
     /// The first refusal that applies, in the order in which the work is done.
     No(LogRefusal),
     /// The mesh, of which no edge meets a face that shares no vertex with it, and the lines of the log.
-    Yes(JournalMesh, Log),
+    Yes(JournalMesh, LogReader),
 }
 
 // The text of a log, read after lists of good shape.
-fn read_lines(alloc: Global, scale: Scale, lists: MeshLists, log: &[u8]) -> Result<Texts, NoMemory>
+fn read_lines(
+    alloc: Global,
+    scale: Scale,
+    lists: MeshLists,
+    log: Vec<u8>,
+) -> Result<Texts, NoMemory>
     requires good { AreGood scale lists }
-    requires log_length { length log.now ≤ TEXT_MAX }
-    ensures { IfOk result (ReadsLines scale lists log.now) }
+    requires log_length { length log.items ≤ TEXT_MAX }
+    ensures { IfOk result (ReadsLines scale lists log.items) }
 {
-    match read_log(alloc, scale, log) {
+    match LogReader::of(alloc, scale, log) {
         Ok(lines) => Ok(Texts::Yes(lists, lines)),
         Err(ReadFault::NoMemory) => Err(NoMemory),
         Err(ReadFault::Text(fault)) => Ok(Texts::No(LogRefusal::Log(fault))),
@@ -67,12 +72,12 @@ pub fn read_texts(
     scale: Scale,
     decimals: u8,
     mesh: &[u8],
-    log: &[u8],
+    log: Vec<u8>,
 ) -> Result<Texts, NoMemory>
     requires few { decimals ≤ DECIMALS_MAX }
     requires mesh_length { length mesh.now ≤ TEXT_MAX }
-    requires log_length { length log.now ≤ TEXT_MAX }
-    ensures { IfOk result (ReadsTexts scale decimals mesh.now log.now) }
+    requires log_length { length log.items ≤ TEXT_MAX }
+    ensures { IfOk result (ReadsTexts scale decimals mesh.now log.items) }
 {
     let lists = match read_obj(alloc, mesh, decimals) {
         Ok(lists) => lists,
@@ -96,7 +101,7 @@ pub fn test_mesh(
     alloc: Global,
     scale: Scale,
     lists: &MeshLists,
-    lines: Log,
+    lines: LogReader,
 ) -> Result<PreparedLog, NoMemory>
     requires good { AreGood scale lists.now }
     ensures { IfOk result (Tests scale lists.now lines) }
@@ -114,12 +119,12 @@ fn read_and_test(
     scale: Scale,
     decimals: u8,
     mesh: &[u8],
-    log: &[u8],
+    log: Vec<u8>,
 ) -> Result<PreparedLog, NoMemory>
     requires few { decimals ≤ DECIMALS_MAX }
     requires mesh_length { length mesh.now ≤ TEXT_MAX }
-    requires log_length { length log.now ≤ TEXT_MAX }
-    ensures { IfOk result (ReadsAndTests scale decimals mesh.now log.now) }
+    requires log_length { length log.items ≤ TEXT_MAX }
+    ensures { IfOk result (ReadsAndTests scale decimals mesh.now log.items) }
 {
     match read_texts(alloc, scale, decimals, mesh, log)? {
         Texts::No(why) => Ok(PreparedLog::No(why)),
@@ -180,7 +185,7 @@ pub fn prepare_log<O: Outside>(
             files.scale,
             files.decimals,
             &mesh,
-            &log,
+            log,
         )?),
     }
 }

@@ -307,36 +307,42 @@ module _ (m : Mesh) (lines : List LogLine) where
         finish so_far.front (text_of End) None ends
         (whole_end ∙ ap (λ l. front_text m l ++ text_of_all (End ∷ [])) (sym all_are) ∙ ap (λ x. front_text m so_far.front ++ x) (append-nil (text_of End))) a b c so_far.written so_far.nothing_stored r t same
 
--- ---- by the place in the list of lines
+-- ---- by the line that is taken off those that are left
 
-module _ (m : Mesh) (lines : List LogLine) (i : ℕ) (line : LogLine) (lt : i < length lines) (at : line ≡ get_or lines i line) (run : LogState) (shape : MeshShape) (number : ℕ) (a b c : Around) (h : Measuring m lines (drop i lines) run shape number a b) where
-  here : Measuring m lines (line ∷ drop (i + 1) lines) run shape number a b
-  here =
-      let P : List LogLine → Type 0 = λ l. Measuring m lines l run shape number a b in
-      subst P (drop_more lines i line lt ∙ ap (λ (x : LogLine). x ∷ drop (i + 1) lines) (sym at)) h
+module _ (m : Mesh) (lines left : List LogLine) (run : LogState) (shape : MeshShape) (number : ℕ) (a b : Around) (h : Measuring m lines left run shape number a b) where
+  -- memory is wanting before it is known whether a line is left
+  pub forgotten_here : MeasuresLines m lines a b (Err NoMemory)
+  forgotten_here = record {
+    told = stops_behind m lines h.front left h.split h.fit (written_of a) (written_of b) NoMemory h.written;
+    nothing_stored = nothing_then a b b _ _ h.nothing_stored (nothing_unremembered b);
+  }
 
-  pub stops_here : (stop : Stop) → MeasuresLine (number + 1) run line b c (Err stop) → MeasuresLines m lines a c (Err stop)
-  stops_here stop measures = line_stops m lines line (drop (i + 1) lines) run shape number a b c here stop measures
+  module _ (line : LogLine) (more : List LogLine) (is : left ≡ line ∷ more) (c : Around) where
+    here : Measuring m lines (line ∷ more) run shape number a b
+    here = subst (λ (l : List LogLine). Measuring m lines l run shape number a b) is h
 
-  pub refused_here : (fits : Bool) → fits ≡ false → MeasuresLine (number + 1) run line b c (Ok fits) → (d : Around) (r : Result (Option LogRefusal) Stop) → Tells (refused_text (log.Replay (number + 1))) c d r → IfOk r (λ x. x ≡ Some (log.Replay (number + 1))) → MeasuresLines m lines a d r
-  refused_here fits missed measures d r t same =
-      let P : Bool → Type 0 = λ x. MeasuresLine (number + 1) run line b c (Ok x) in
-      line_refused m lines line (drop (i + 1) lines) run shape number a b c here (subst P missed measures) d r t same
+    pub stops_here : (stop : Stop) → MeasuresLine (number + 1) run line b c (Err stop) → MeasuresLines m lines a c (Err stop)
+    stops_here stop measures = line_stops m lines line more run shape number a b c here stop measures
 
-  pub more_here : (fits : Bool) → fits ≡ true → MeasuresLine (number + 1) run line b c (Ok fits) → (next : LogState) (behind : MeshShape) → next ≡ with_line run line → IsValidState next → behind ≡ shape_of next.replay.mesh → Measuring m lines (drop (i + 1) lines) next behind (number + 1) a c
-  more_here fits taken_is measures next behind taken valid is =
-      let P : Bool → Type 0 = λ x. MeasuresLine (number + 1) run line b c (Ok x) in
-      one_more m lines line (drop (i + 1) lines) run shape number a b c here next behind (subst P taken_is measures) taken valid is
+    pub refused_here : (fits : Bool) → fits ≡ false → MeasuresLine (number + 1) run line b c (Ok fits) → (d : Around) (r : Result (Option LogRefusal) Stop) → Tells (refused_text (log.Replay (number + 1))) c d r → IfOk r (λ x. x ≡ Some (log.Replay (number + 1))) → MeasuresLines m lines a d r
+    refused_here fits missed measures d r t same =
+        let P : Bool → Type 0 = λ x. MeasuresLine (number + 1) run line b c (Ok x) in
+        line_refused m lines line more run shape number a b c here (subst P missed measures) d r t same
 
-module _ (m : Mesh) (lines : List LogLine) (i : ℕ) (le : length lines ≤ i) (run : LogState) (shape : MeshShape) (number : ℕ) (a b c : Around) (h : Measuring m lines (drop i lines) run shape number a b) where
-  at_end : Measuring m lines [] run shape number a b
-  at_end = let P : List LogLine → Type 0 = λ l. Measuring m lines l run shape number a b in subst P (drop_all i lines le) h
+    pub more_here : (fits : Bool) → fits ≡ true → MeasuresLine (number + 1) run line b c (Ok fits) → (next : LogState) (behind : MeshShape) → next ≡ with_line run line → IsValidState next → behind ≡ shape_of next.replay.mesh → Measuring m lines more next behind (number + 1) a c
+    more_here fits taken_is measures next behind taken valid is =
+        let P : Bool → Type 0 = λ x. MeasuresLine (number + 1) run line b c (Ok x) in
+        one_more m lines line more run shape number a b c here next behind (subst P taken_is measures) taken valid is
 
-  pub no_line_here : number ≡ 0 → (r : Result (Option LogRefusal) Stop) → Tells (refused_text (log.Replay 1)) b c r → IfOk r (λ x. x ≡ Some (log.Replay 1)) → MeasuresLines m lines a c r
-  no_line_here zero_is r t same = none_at_all m lines run shape number a b c at_end zero_is r t same
+  module _ (none : left ≡ []) (c : Around) where
+    at_end : Measuring m lines [] run shape number a b
+    at_end = subst (λ (l : List LogLine). Measuring m lines l run shape number a b) none h
 
-  pub end_told : (number ≡ 0 → ⊥) → (r : Result (Option LogRefusal) Stop) → Tells (text_of End) b c r → IfOk r (λ x. x ≡ None) → MeasuresLines m lines a c r
-  end_told some r t same = all_told m lines run shape number a b c at_end some r t same
+    pub no_line_here : number ≡ 0 → (r : Result (Option LogRefusal) Stop) → Tells (refused_text (log.Replay 1)) b c r → IfOk r (λ x. x ≡ Some (log.Replay 1)) → MeasuresLines m lines a c r
+    no_line_here zero_is r t same = none_at_all m lines run shape number a b c at_end zero_is r t same
+
+    pub end_told : (number ≡ 0 → ⊥) → (r : Result (Option LogRefusal) Stop) → Tells (text_of End) b c r → IfOk r (λ x. x ≡ None) → MeasuresLines m lines a c r
+    end_told some r t same = all_told m lines run shape number a b c at_end some r t same
 
 -- nothing is told yet, for want of memory
 pub measured_nothing : (m : Mesh) (lines : List LogLine) (a : Around) → MeasuresLines m lines a a (Err NoMemory)

@@ -19,6 +19,7 @@ use crate::kept_shape::line_keeps_shape;
 use crate::measures::{MeasureLine, MeshShape, measure_of_line, shape_of};
 use crate::printer::print_measure;
 use grid_base::NoMemory;
+use log_read::LogReader;
 use log_run::LogRun;
 use log_run::laws::fitting_lines_are_safe;
 use log_text::LogLine;
@@ -107,21 +108,21 @@ fn measure_line<O: Outside>(
 fn measure_each<O: Outside>(
     alloc: Global,
     run: &mut LogRun,
-    lines: &[LogLine],
+    lines: &mut LogReader,
     outside: &mut O,
 ) -> Result<Option<LogRefusal>, Stop>
     requires fresh { run.old ≡ without_lines run.old.replay.mesh }
     requires valid { IsValidState run.old }
-    requires few { length lines.now < 2 ^ 31 }
+    requires few { length lines.old < 2 ^ 31 }
     ensures { let mesh = run.old.replay.mesh in
-        MeasuresLines mesh lines.now (O.around outside.old) (O.around outside.new) result }
+        MeasuresLines mesh lines.old (O.around outside.old) (O.around outside.new) result }
 {
     let mut shape = shape_of(alloc, run.mesh())?;
     let mut number: u32 = 0;
-    for line in lines {
+    while let Some(line) = lines.take_first(alloc)? {
         number += 1;
         outside.hear(Fact::Taken { lines: number });
-        if !measure_line(alloc, run, number, line, &mut shape, outside)? {
+        if !measure_line(alloc, run, number, &line, &mut shape, outside)? {
             return refuse(alloc, &LogRefusal::Replay { line: number }, outside);
         }
     }
@@ -136,16 +137,17 @@ fn measure_each<O: Outside>(
 fn measure_lines<O: Outside>(
     alloc: Global,
     mesh: JournalMesh,
-    lines: &[LogLine],
+    lines: LogReader,
     outside: &mut O,
 ) -> Result<Option<LogRefusal>, Stop>
     requires valid { IsValidSurface (mesh_in mesh) }
-    requires few { length lines.now < 2 ^ 31 }
-    ensures { MeasuresLines (mesh_in mesh) lines.now (O.around outside.old) (O.around outside.new) result }
+    requires few { length lines < 2 ^ 31 }
+    ensures { MeasuresLines (mesh_in mesh) lines (O.around outside.old) (O.around outside.new) result }
 {
     fitting_lines_are_safe();
+    let mut lines = lines;
     let mut run = LogRun::new(alloc, mesh);
-    measure_each(alloc, &mut run, lines, outside)
+    measure_each(alloc, &mut run, &mut lines, outside)
 }
 
 /// Tells what a log did to volume and shape: the mesh file and the file of the log are fetched and read, the points with so many
@@ -166,6 +168,6 @@ pub fn measure<O: Outside>(
 {
     match prepare_log(alloc, files, outside)? {
         PreparedLog::No(why) => refuse(alloc, &why, outside),
-        PreparedLog::Yes(mesh, lines) => measure_lines(alloc, mesh, lines.as_slice(), outside),
+        PreparedLog::Yes(mesh, lines) => measure_lines(alloc, mesh, lines, outside),
     }
 }

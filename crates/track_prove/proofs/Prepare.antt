@@ -9,11 +9,9 @@ use Rattle.mesh_journal.specs.Journal.{mesh_in}
 use Rattle.line_text.specs.declared.TextFault.{TextFault}
 use Rattle.obj_text.specs.Obj.{lists_of}
 use Rattle.obj_text.specs.Views.{lists_view}
-use Rattle.proof_text.specs.declared.ProofAt.{ProofAt}
 use Rattle.proof_text.specs.Laws.{AreProofs}
 use Rattle.proof_text.specs.Order.{proofs_of}
 use Rattle.proof_text.specs.Plain.{PlainProof}
-use Rattle.proof_text.specs.Views.{proofs_view}
 use Rattle.log_text.specs.declared.LogLine.{LogLine}
 use Rattle.log_text.specs.declared.Refusal.TheVariants as refusal
 use Rattle.outside_io.specs.declared.outside.Fetched.{Fetched}
@@ -50,12 +48,12 @@ module _ (scale : Scale) (lists : MeshLists) (lines : List LogLine) (ps : List P
   pub gives_meeting : (why : LogRefusal) → x ≡ prepared.No why → GivesInput scale (read_with_proof (Ok (texts_of lists lines)) (Ok ps)) (given.No why)
   gives_meeting why is = record { input = tested_input ∙ ap (λ p. with_proofs (log_input_by p) ps) is; ready = tt }
 
-  pub gives_all : (mesh : _) (left : List LogLine) (proofs : List ProofAt) → x ≡ prepared.Yes mesh left → ps ≡ proofs_view proofs → length lines < 2 ^ 31 → AreProofs ps → GivesInput scale (read_with_proof (Ok (texts_of lists lines)) (Ok ps)) (given.Yes mesh left proofs)
-  gives_all mesh left proofs is are few order =
+  pub gives_all : (mesh : _) (left : List LogLine) → x ≡ prepared.Yes mesh left → length lines < 2 ^ 31 → AreProofs ps → GivesInput scale (read_with_proof (Ok (texts_of lists lines)) (Ok ps)) (given.Yes mesh left ps)
+  gives_all mesh left is few order =
       let both : IsPrepared (prepared.Yes mesh left) = subst IsPrepared is (tests.ready few) in
       record {
-        input = tested_input ∙ ap (λ p. with_proofs (log_input_by p) ps) is ∙ ap (λ qs. with_proofs (log_input_by (prepared.Yes mesh left)) qs) are;
-        ready = (both.0, (both.1, subst AreProofs are order));
+        input = tested_input ∙ ap (λ p. with_proofs (log_input_by p) ps) is;
+        ready = (both.0, (both.1, order));
       }
 
 -- ---- the text of the proof is read
@@ -132,10 +130,8 @@ module _ (files : Option Files) (names : ProofNames) (x : FetchedLog) (fetches :
       ready = gives.ready;
     }
 
-    -- with the slices that were read
-    pub prepares_read : (proof : List ℕ) → source_of f ≡ Bytes proof → (a b c : List ℕ) → a ≡ mesh → b ≡ log → c ≡ proof → (g : Inputs) → GivesInput names.names.scale (read_with_proof (read_of_lists names.names.scale (lists_of names.names.decimals a) b) (proofs_of c)) g → PreparesProof files names g
-    prepares_read proof e a b c mesh_is log_is proof_is g gives =
-        let P : List ℕ → Type 0 = λ x. GivesInput names.names.scale (read_with_proof (read_of_lists names.names.scale (lists_of names.names.decimals x) b) (proofs_of c)) g in
-        let Q : List ℕ → Type 0 = λ y. GivesInput names.names.scale (read_with_proof (read_of_lists names.names.scale (lists_of names.names.decimals mesh) y) (proofs_of c)) g in
-        let R : List ℕ → Type 0 = λ z. GivesInput names.names.scale (read_with_proof (read_of_lists names.names.scale (lists_of names.names.decimals mesh) log) (proofs_of z)) g in
-        prepares_proof proof e g (subst R proof_is (subst Q log_is (subst P mesh_is gives)))
+    -- with the slice of the mesh that was read
+    pub prepares_read : (proof : List ℕ) → source_of f ≡ Bytes proof → (a : List ℕ) → a ≡ mesh → (g : Inputs) → GivesInput names.names.scale (read_with_proof (read_of_lists names.names.scale (lists_of names.names.decimals a) log) (proofs_of proof)) g → PreparesProof files names g
+    prepares_read proof e a mesh_is g gives =
+        let P : List ℕ → Type 0 = λ x. GivesInput names.names.scale (read_with_proof (read_of_lists names.names.scale (lists_of names.names.decimals x) log) (proofs_of proof)) g in
+        prepares_proof proof e g (subst P mesh_is gives)

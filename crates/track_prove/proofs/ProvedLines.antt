@@ -1,6 +1,6 @@
 -- The certificates so far, and how a log's lines are proved.
-use Rattle.std.proofs.Common.{◌≡◌, ℕ, suc, ◌+◌, ◌<◌, ◌≤◌, List, [], ◌∷◌, ◌++◌, length, drop, get_or, Option, Some, None, Result, Ok, Err, false, refl, ap, sym, ◌∙◌, subst, arith}
-use Rattle.std.proofs.lemmas.List.{length-append, drop_all, drop_more}
+use Rattle.std.proofs.Common.{◌≡◌, ℕ, suc, ◌+◌, ◌<◌, ◌≤◌, List, [], ◌∷◌, ◌++◌, length, Option, Some, None, Result, Ok, Err, false, refl, ap, sym, ◌∙◌, subst, arith}
+use Rattle.std.proofs.lemmas.List.{length-append}
 use Rattle.mesh_base.specs.Mesh.{Mesh}
 use Rattle.motion_proof.specs.declared.Verdict.{Verdict}
 use Rattle.motion_proof.specs.declared.Verdict.TheVariants.{Accepted}
@@ -59,37 +59,37 @@ module _ (m : Mesh) (lines : List LogLine) where
   refused : (why : LogRefusal) → EndsJudged ProveFinds None m lines (Some why) → ProvesLines m lines (Refused why)
   refused why ends = record { ends = (ends, refl); some = refused_some why; safe = λ e. absurd cc }
 
-  module _ (i : ℕ) (line : LogLine) (lt : i < length lines) (at : line ≡ get_or lines i line) (run : LogState) (number : ℕ) (proofs : List ProofAt) (h : Proving (drop i lines) run number proofs) (x : LineOutcome) (told : IsTaken (MakesVerdict (moved_in run.replay line)) run line x) where
-    here : Proving (line ∷ drop (i + 1) lines) run number proofs
-    here = subst (λ l. Proving l run number proofs) (drop_more lines i line lt ∙ ap (λ (x : LogLine). x ∷ drop (i + 1) lines) (sym at)) h
+  module _ (ahead : List LogLine) (line : LogLine) (others : List LogLine) (first : ahead ≡ line ∷ others) (run : LogState) (number : ℕ) (proofs : List ProofAt) (h : Proving ahead run number proofs) (x : LineOutcome) (told : IsTaken (MakesVerdict (moved_in run.replay line)) run line x) where
+    here : Proving (line ∷ others) run number proofs
+    here = subst (λ l. Proving l run number proofs) first h
 
     -- it does not fit
     pub proving_unfit : x ≡ Unfit → ProvesLines m lines (Refused (log.Replay (number + 1)))
-    proving_unfit is = refused (log.Replay (number + 1)) (unfit_here ProveFinds m lines line here.front (drop (i + 1) lines) run number here.judging None (taken_unfit (MakesVerdict (moved_in run.replay line)) run line x is told))
+    proving_unfit is = refused (log.Replay (number + 1)) (unfit_here ProveFinds m lines line here.front others run number here.judging None (taken_unfit (MakesVerdict (moved_in run.replay line)) run line x is told))
 
     -- something is against it
     pub proving_bad : (verdict : Verdict) → x ≡ Bad verdict → ProvesLines m lines (Refused (log.Motion (number + 1) verdict))
     proving_bad verdict is =
         let bad = taken_bad (MakesVerdict (moved_in run.replay line)) run line x verdict is told in
-        refused (log.Motion (number + 1) verdict) (bad_here ProveFinds m lines line here.front (drop (i + 1) lines) run number here.judging None verdict bad.0 bad.1.0 bad.1.1)
+        refused (log.Motion (number + 1) verdict) (bad_here ProveFinds m lines line here.front others run number here.judging None verdict bad.0 bad.1.0 bad.1.1)
 
     -- one more
-    pub proving_more : x ≡ Fits → (next : LogState) (new : List ProofAt) → Goes run line next → AddsProof (number + 1) (moved_in run.replay line) proofs new → Proving (drop (i + 1) lines) next (number + 1) new
+    pub proving_more : x ≡ Fits → (next : LogState) (new : List ProofAt) → Goes run line next → AddsProof (number + 1) (moved_in run.replay line) proofs new → Proving others next (number + 1) new
     proving_more is next new goes adds =
         let fits = taken_fits (MakesVerdict (moved_in run.replay line)) run line x is told in
-        let there_is = there ProveFinds m lines line here.front (drop (i + 1) lines) run number here.judging in
+        let there_is = there ProveFinds m lines line here.front others run number here.judging in
         let same : number + 1 ≡ 1 + length here.front = omega (arith, here.judging.number_is) in
         let adds_there = subst (λ r. AddsProof (1 + length here.front) (moved_in r line) proofs new) there_is (subst (λ n. AddsProof n (moved_in run.replay line) proofs new) same adds) in
         record {
           front = here.front ++ line ∷ [];
-          judging = one_more ProveFinds m lines line here.front (drop (i + 1) lines) run number here.judging next (record { fits = fits.0; found = fits.1 }) goes;
+          judging = one_more ProveFinds m lines line here.front others run number here.judging next (record { fits = fits.0; found = fits.1 }) goes;
           are = subst (λ l. AreProofsOf l new) (sym (motions_one_more 1 (at_mesh m) here.front line))
               (proofs_with (motions_from 1 (at_mesh m) here.front) proofs new (1 + length here.front) (moved_in (after (at_mesh m) here.front) line) here.are adds_there);
         }
 
-  module _ (i : ℕ) (le : length lines ≤ i) (run : LogState) (number : ℕ) (proofs : List ProofAt) (h : Proving (drop i lines) run number proofs) where
+  module _ (ahead : List LogLine) (none : ahead ≡ []) (run : LogState) (number : ℕ) (proofs : List ProofAt) (h : Proving ahead run number proofs) where
     at_end : Proving [] run number proofs
-    at_end = subst (λ l. Proving l run number proofs) (drop_all i lines le) h
+    at_end = subst (λ l. Proving l run number proofs) none h
 
     -- there was no line
     pub proving_no_line : number ≡ 0 → ProvesLines m lines (Refused (log.Replay 1))

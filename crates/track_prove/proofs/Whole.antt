@@ -2,8 +2,7 @@
 use Rattle.std.proofs.Common.{◌≡◌, ◌⊎◌, inl, inr, ℕ, List, Option, Some, None, Result, Ok, Err, IfOk, refl, ap, sym, ◌∙◌, subst}
 use Rattle.mesh_journal.specs.Journal.{mesh_in}
 use Rattle.log_text.specs.declared.LogLine.{LogLine}
-use Rattle.proof_text.specs.declared.ProofAt.{ProofAt}
-use Rattle.proof_text.specs.Views.{proofs_view}
+use Rattle.proof_text.specs.Plain.{PlainProof}
 use Rattle.outside_io.specs.declared.stop.Stop.{Stop}
 use Rattle.outside_io.specs.Desk.{Files}
 use Rattle.outside_io.specs.Outside.{Around, HasCauses, OnlyLooks, written_of}
@@ -61,7 +60,7 @@ proof_refused files names x why prepares is =
       report = subst P (sym (prepares.input ∙ ap input_by is)) (record { ends = (refl, refl); some = refused_some why; safe = λ e. absurd cc });
     }
 
-pub proof_verified : (files : Option Files) (names : ProofNames) (x : Inputs) (mesh : _) (lines : List LogLine) (proofs : List ProofAt) (found : Report) → PreparesProof files names x → x ≡ given.Yes mesh lines proofs → VerifiesLines (mesh_in mesh) lines (proofs_view proofs) found → VerifiesFiles files names found
+pub proof_verified : (files : Option Files) (names : ProofNames) (x : Inputs) (mesh : _) (lines : List LogLine) (proofs : List PlainProof) (found : Report) → PreparesProof files names x → x ≡ given.Yes mesh lines proofs → VerifiesLines (mesh_in mesh) lines proofs found → VerifiesFiles files names found
 proof_verified files names x mesh lines proofs found prepares is done =
     let P : Result ProofInput LogRefusal → Type 0 = λ i. IsReport (VerifyEnds i) (IsSafeProof i) found in
     record {

@@ -10,7 +10,6 @@ use Rattle.obj_text.specs.Views.{lists_view}
 use Rattle.proof_text.specs.Laws.{AreProofs}
 use Rattle.proof_text.specs.Order.{proofs_of}
 use Rattle.proof_text.specs.Plain.{PlainProof}
-use Rattle.proof_text.specs.Views.{proofs_view}
 use Rattle.log_text.specs.declared.LogLine.{LogLine}
 use Rattle.outside_io.specs.Desk.{Files}
 use Rattle.track_input.specs.Words.{LogNames, ProofNames}
@@ -78,13 +77,13 @@ pub record VerifiesFiles (files : Option Files) (names : ProofNames) (found : Re
 abbrev pub input_by : Inputs → Result ProofInput LogRefusal
 input_by (given.No why) = Err why
 input_by (given.Yes mesh lines proofs) =
-    Ok (record { log = record { mesh = mesh_in mesh; lines = lines }; proofs = proofs_view proofs })
+    Ok (record { log = record { mesh = mesh_in mesh; lines = lines }; proofs = proofs })
 
 -- the mesh is sound, closed and clear, the lines are few, and the certificates stand in order
 abbrev pub IsReady : Inputs → Type 0
 IsReady (given.No why) = Unit {0}
 IsReady (given.Yes mesh lines proofs) =
-    IsValidSurface (mesh_in mesh) × ((length lines < 2 ^ 31) × AreProofs (proofs_view proofs))
+    IsValidSurface (mesh_in mesh) × ((length lines < 2 ^ 31) × AreProofs proofs)
 
 -- what a read mesh, a read log and a read proof give
 pub record GivesInput (scale : Scale) (read : Result ProofTexts LogRefusal)

@@ -1,11 +1,12 @@
 -- What becomes of one line.
-use Rattle.std.specs.Prelude.{◌≡◌, ◌==◌, ℕ, List, [], ◌∷◌, ◌++◌, Option, Some, None, if◌then◌else◌}
+use Rattle.std.specs.Prelude.{◌≡◌, ◌==◌, ℕ, List, [], ◌∷◌, ◌++◌, length, Option, Some, None, option_to_list, if◌then◌else◌}
 use Rattle.edit_base.specs.Scaffold.{Scaffold}
 use Rattle.motion_proof.specs.declared.Made.{Made}
 use Rattle.motion_proof.specs.declared.Verdict.{Verdict}
 use Rattle.motion_proof.specs.declared.Verdict.TheVariants.{Accepted, NoMotion}
 use Rattle.proof_text.specs.declared.ProofAt.{ProofAt}
 use Rattle.proof_text.specs.Plain.{PlainProof}
+use Rattle.proof_text.specs.Views.{proof_view}
 use Rattle.log_text.specs.declared.LogLine.{LogLine}
 use Rattle.log_replay.specs.Safe.{LineKeepsTheMesh}
 use Rattle.log_run.specs.States.{LogState, with_line}
@@ -76,3 +77,13 @@ behind (p ∷ proofs) number = if p.line == number then proofs else p ∷ proofs
 abbrev pub first_line : List PlainProof → Option ℕ
 first_line [] = None
 first_line (p ∷ proofs) = Some p.line
+
+-- the certificates that are left, by the one at hand; where none is, none is left
+abbrev pub proofs_due : Option ProofAt → List PlainProof → List PlainProof
+proofs_due None others = []
+proofs_due (Some first) others = proof_view first ∷ others
+
+-- certificates are passed over, so many: the first, where it is that of the line with this number
+pub record Passes (number : ℕ) (old new : List PlainProof) (count : ℕ) : Type 0 where
+  pub left : new ≡ behind old number
+  pub count_is : count ≡ length (option_to_list (front_at old number))

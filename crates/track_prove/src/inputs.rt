@@ -4,7 +4,6 @@ ghost use Rattle.grid_base.specs.declared.TheConstants.{TEXT_MAX, DECIMALS_MAX};
 ghost use Rattle.obj_text.specs.Obj.{lists_of};
 ghost use Rattle.proof_text.specs.Laws.{AreProofs};
 ghost use Rattle.proof_text.specs.Order.{proofs_of};
-ghost use Rattle.proof_text.specs.Views.{proofs_view};
 ghost use Rattle.outside_io.specs.Outside.{OnlyLooks};
 ghost use Rattle.track_input.specs.Named.{proof_names};
 ghost use Rattle.track_input.specs.Reading.{AreGood};
@@ -14,11 +13,12 @@ ghost use Rattle.track_prove.specs.Doing.{texts_of, GivesInput, PreparesProof};
 
 use grid_base::NoMemory;
 use line_text::ReadFault;
-use log_text::{Log, Refusal};
+use log_read::LogReader;
+use log_text::Refusal;
 use mesh_base::{FileWord, MeshLists, Scale};
 use mesh_journal::JournalMesh;
 use outside_io::{Fetched, Outside, Stop};
-use proof_text::{Proofs, read_proof};
+use proof_text::ProofReader;
 use std::alloc::Global;
 use track_input::{ProofFiles, fetch_text};
 use track_log::{FetchedLog, LogRefusal, PreparedLog, Texts, fetch_log, read_texts, test_mesh};
@@ -29,7 +29,7 @@ pub(crate) enum Inputs {
     // The first refusal that applies, in the order in which the work is done.
     No(LogRefusal),
     // The mesh, of which no edge meets a face that shares no vertex with it, the lines of the log, and the certificates of the proof.
-    Yes(JournalMesh, Log, Proofs),
+    Yes(JournalMesh, LogReader, ProofReader),
 }
 
 // The mesh is tested, behind lists, a log and a proof that were read.
@@ -37,14 +37,14 @@ fn test_inputs(
     alloc: Global,
     scale: Scale,
     lists: &MeshLists,
-    lines: Log,
-    proofs: Proofs,
+    lines: LogReader,
+    proofs: ProofReader,
 ) -> Result<Inputs, NoMemory>
     requires good { AreGood scale lists.now }
     requires few { length lines < 2 ^ 31 }
-    requires order { AreProofs (proofs_view proofs) }
+    requires order { AreProofs proofs }
     ensures { let texts = Ok (texts_of lists.now lines) in
-        IfOk result (GivesInput scale (read_with_proof texts (Ok (proofs_view proofs)))) }
+        IfOk result (GivesInput scale (read_with_proof texts (Ok proofs))) }
 {
     match test_mesh(alloc, scale, lists, lines)? {
         PreparedLog::No(why) => Ok(Inputs::No(why)),
@@ -57,16 +57,16 @@ fn read_proof_of(
     alloc: Global,
     scale: Scale,
     lists: MeshLists,
-    lines: Log,
-    proof: &[u8],
+    lines: LogReader,
+    proof: Vec<u8>,
 ) -> Result<Inputs, NoMemory>
     requires good { AreGood scale lists }
     requires few { length lines < 2 ^ 31 }
-    requires proof_length { length proof.now ≤ TEXT_MAX }
+    requires proof_length { length proof.items ≤ TEXT_MAX }
     ensures { let texts = Ok (texts_of lists lines) in
-        IfOk result (GivesInput scale (read_with_proof texts (proofs_of proof.now))) }
+        IfOk result (GivesInput scale (read_with_proof texts (proofs_of proof.items))) }
 {
-    match read_proof(alloc, proof) {
+    match ProofReader::of(alloc, proof) {
         Ok(proofs) => test_inputs(alloc, scale, &lists, lines, proofs),
         Err(ReadFault::NoMemory) => Err(NoMemory),
         Err(ReadFault::Text(fault)) => Ok(Inputs::No(LogRefusal::Proof(fault))),
@@ -79,15 +79,15 @@ fn read_all(
     scale: Scale,
     decimals: u8,
     mesh: &[u8],
-    log: &[u8],
-    proof: &[u8],
+    log: Vec<u8>,
+    proof: Vec<u8>,
 ) -> Result<Inputs, NoMemory>
     requires few { decimals ≤ DECIMALS_MAX }
     requires mesh_length { length mesh.now ≤ TEXT_MAX }
-    requires log_length { length log.now ≤ TEXT_MAX }
-    requires proof_length { length proof.now ≤ TEXT_MAX }
-    ensures { let texts = read_of_lists scale (lists_of decimals mesh.now) log.now in
-        IfOk result (GivesInput scale (read_with_proof texts (proofs_of proof.now))) }
+    requires log_length { length log.items ≤ TEXT_MAX }
+    requires proof_length { length proof.items ≤ TEXT_MAX }
+    ensures { let texts = read_of_lists scale (lists_of decimals mesh.now) log.items in
+        IfOk result (GivesInput scale (read_with_proof texts (proofs_of proof.items))) }
 {
     match read_texts(alloc, scale, decimals, mesh, log)? {
         Texts::No(why) => Ok(Inputs::No(why)),
@@ -130,7 +130,7 @@ pub(crate) fn prepare_proof<O: Outside>(
         given.files.scale,
         given.files.decimals,
         &mesh,
-        &log,
-        &proof,
+        log,
+        proof,
     )?)
 }

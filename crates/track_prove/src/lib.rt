@@ -1,6 +1,7 @@
 //! Proofs of logs: the command that writes one, and the command that tests one, whoever wrote it.
 #![tactic(auto)]
 
+mod due_proofs;
 mod inputs;
 pub mod laws;
 mod prove_command;

@@ -16,6 +16,7 @@ ghost use Rattle.track_prove.specs.Headline.{Proves};
 use crate::report::{Report, tell};
 use crate::taken_lines::{LineOutcome, take_clear};
 use grid_base::NoMemory;
+use log_read::LogReader;
 use log_run::LogRun;
 use log_run::laws::fitting_lines_are_safe;
 use log_text::LogLine;
@@ -104,21 +105,21 @@ fn prove_each<O: Outside>(
     alloc: Global,
     run: &mut LogRun,
     proofs: &mut Proofs,
-    lines: &[LogLine],
+    lines: &mut LogReader,
     outside: &mut O,
 ) -> Result<Report, NoMemory>
     requires fresh { run.old ≡ without_lines run.old.replay.mesh }
     requires valid { IsValidState run.old }
     requires none { proofs.old ≡ [] }
-    requires few { length lines.now < 2 ^ 31 }
-    ensures proves { let mesh = run.old.replay.mesh in IfOk result (ProvesLines mesh lines.now) }
+    requires few { length lines.old < 2 ^ 31 }
+    ensures proves { let mesh = run.old.replay.mesh in IfOk result (ProvesLines mesh lines.old) }
     ensures same { O.around outside.new ≡ O.around outside.old }
 {
     let mut number: u32 = 0;
-    for line in lines {
+    while let Some(line) = lines.take_first(alloc)? {
         number += 1;
         outside.hear(Fact::Taken { lines: number });
-        match prove_line(run, number, line, proofs)? {
+        match prove_line(run, number, &line, proofs)? {
             LineOutcome::Fits => {}
             LineOutcome::Unfit => {
                 return Ok(Report::Refused(LogRefusal::Replay { line: number }));
@@ -142,18 +143,19 @@ fn prove_each<O: Outside>(
 fn prove_lines<O: Outside>(
     alloc: Global,
     mesh: JournalMesh,
-    lines: &[LogLine],
+    lines: LogReader,
     outside: &mut O,
 ) -> Result<Report, NoMemory>
     requires valid { IsValidSurface (mesh_in mesh) }
-    requires few { length lines.now < 2 ^ 31 }
-    ensures proves { IfOk result (ProvesLines (mesh_in mesh) lines.now) }
+    requires few { length lines < 2 ^ 31 }
+    ensures proves { IfOk result (ProvesLines (mesh_in mesh) lines) }
     ensures same { O.around outside.new ≡ O.around outside.old }
 {
     fitting_lines_are_safe();
+    let mut lines = lines;
     let mut run = LogRun::new(alloc, mesh);
     let mut proofs = Proofs::new(alloc);
-    prove_each(alloc, &mut run, &mut proofs, lines, outside)
+    prove_each(alloc, &mut run, &mut proofs, &mut lines, outside)
 }
 
 // Fetches and reads a mesh and a log, and proves the log. Nothing is written.
@@ -170,7 +172,7 @@ fn prove_files<O: Outside>(
     match prepare_log(alloc, files, outside)? {
         PreparedLog::No(why) => Ok(Report::Refused(why)),
         PreparedLog::Yes(mesh, lines) => {
-            Ok(prove_lines(alloc, mesh, lines.as_slice(), outside)?)
+            Ok(prove_lines(alloc, mesh, lines, outside)?)
         },
     }
 }

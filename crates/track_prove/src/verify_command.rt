@@ -4,22 +4,24 @@ ghost use Rattle.grid_base.specs.declared.TheConstants.{DECIMALS_MAX};
 ghost use Rattle.mesh_base.specs.Valid.{IsValidSurface};
 ghost use Rattle.mesh_journal.specs.Journal.{mesh_in};
 ghost use Rattle.proof_text.specs.Laws.{AreProofs};
-ghost use Rattle.proof_text.specs.Views.{proof_view, proofs_view};
+ghost use Rattle.proof_text.specs.Views.{proof_view};
 ghost use Rattle.log_run.specs.Laws.{IsValidState};
 ghost use Rattle.log_run.specs.Motions.{moved_in};
 ghost use Rattle.log_run.specs.States.{without_lines};
 ghost use Rattle.outside_io.specs.Outside.{OnlyLooks, InWorld};
 ghost use Rattle.track_input.specs.Named.{proof_names};
 ghost use Rattle.track_prove.specs.Verifying.{FoundOf, verified_text};
-ghost use Rattle.track_prove.specs.Taking.{IsJudgedHere, IsTaken, Goes, front_at, behind, first_line};
+ghost use Rattle.track_prove.specs.Taking.{IsJudgedHere, IsTaken, Goes, front_at};
 ghost use Rattle.track_prove.specs.Doing.{EndsWellWith, VerifiesLines, VerifiesFiles};
 ghost use Rattle.track_prove.specs.Headline.{Verifies};
 
+use crate::due_proofs::DueProofs;
 use crate::inputs::{Inputs, prepare_proof};
 use crate::report::{Report, tell};
 use crate::taken_lines::{LineOutcome, deny, take_clear, tells_motion};
 use grid_base::NoMemory;
 use line_text::{Field, put_line};
+use log_read::LogReader;
 use log_run::LogRun;
 use log_run::laws::fitting_lines_are_safe;
 use log_text::LogLine;
@@ -27,36 +29,10 @@ use mesh_journal::JournalMesh;
 use motion_proof::Verdict;
 use motion_proof::laws::accepted_motions_are_clear;
 use outside_io::{Fact, Outside, Stop};
-use proof_text::ProofAt;
+use proof_text::{ProofAt, ProofReader};
 use std::alloc::Global;
 use track_input::ProofFiles;
 use track_log::LogRefusal;
-
-// The first certificate, where it is that of the line with this number.
-fn front_at(proofs: &[ProofAt], number: u32) -> Option<&ProofAt>
-    ensures { option_map (λ p. proof_view p.now) result ≡ front_at (proofs_view proofs.now) number }
-{
-    match proofs {
-        [first, ..] => {
-            if first.line == number {
-                Some(first)
-            } else {
-                None
-            }
-        }
-        [] => None,
-    }
-}
-
-// The certificates behind that of the line with this number, where that is the first.
-fn behind(proofs: &[ProofAt], number: u32) -> &[ProofAt]
-    ensures { proofs_view result.now ≡ behind (proofs_view proofs.now) number }
-{
-    match proofs {
-        [first, others @ ..] => { if first.line == number { others } else { proofs } }
-        [] => proofs,
-    }
-}
 
 // Takes a line that fits, by the verdict on the certificate of its motion.
 fn take_judged(
@@ -113,37 +89,27 @@ fn verify_line(
     run: &mut LogRun,
     number: u32,
     line: &LogLine,
-    proofs: &[ProofAt],
+    due: &DueProofs,
 ) -> Result<LineOutcome, NoMemory>
     requires unspent { run.old.is_spent ≡ false }
     requires valid { IsValidState run.old }
     ensures told { let motion = moved_in run.old.replay line.now in
-        IfOk result (IsTaken (FoundOf motion (front_at (proofs_view proofs.now) number)) run.old line.now) }
+        IfOk result (IsTaken (FoundOf motion (front_at due.now number)) run.old line.now) }
     ensures goes { result ≡ Ok LineOutcome.Fits → Goes run.old line.now run.new }
 {
-    match front_at(proofs, number) {
+    match due.front_at(number) {
         Some(at) => verify_by(run, line, at),
         None => verify_bare(run, line),
     }
 }
 
-// The line of the first certificate, if there is one.
-fn first_line(proofs: &[ProofAt]) -> Option<u32>
-    ensures { result ≡ first_line (proofs_view proofs.now) }
-{
-    match proofs {
-        [first, ..] => Some(first.line),
-        [] => None,
-    }
-}
-
 // The report that so many motions are proved.
-fn verified_report(alloc: Global, motions: usize) -> Result<Report, NoMemory>
+fn verified_report(alloc: Global, motions: u32) -> Result<Report, NoMemory>
     ensures { IfOk result (λ report. EndsWellWith report (verified_text motions)) }
 {
     let mut text = Vec::new(alloc);
     put_line(
-        &[Field::Text(b"verified"), Field::Number(motions as u64)],
+        &[Field::Text(b"verified"), Field::Number(u64::from(motions))],
         &mut text,
     )?;
     Ok(Report::Text(text))
@@ -155,24 +121,24 @@ fn verified_report(alloc: Global, motions: usize) -> Result<Report, NoMemory>
 fn verify_each<O: Outside>(
     alloc: Global,
     run: &mut LogRun,
-    lines: &[LogLine],
-    proofs: &[ProofAt],
+    lines: &mut LogReader,
+    due: &mut DueProofs,
     outside: &mut O,
 ) -> Result<Report, NoMemory>
     requires fresh { run.old ≡ without_lines run.old.replay.mesh }
     requires valid { IsValidState run.old }
-    requires few { length lines.now < 2 ^ 31 }
-    requires order { AreProofs (proofs_view proofs.now) }
+    requires few { length lines.old < 2 ^ 31 }
+    requires order { AreProofs due.old }
     ensures verifies { let mesh = run.old.replay.mesh in
-        IfOk result (VerifiesLines mesh lines.now (proofs_view proofs.now)) }
+        IfOk result (VerifiesLines mesh lines.old due.old) }
     ensures same { O.around outside.new ≡ O.around outside.old }
 {
-    let mut rest = proofs;
+    let mut motions: u32 = 0;
     let mut number: u32 = 0;
-    for line in lines {
+    while let Some(line) = lines.take_first(alloc)? {
         number += 1;
         outside.hear(Fact::Taken { lines: number });
-        match verify_line(run, number, line, rest)? {
+        match verify_line(run, number, &line, due)? {
             LineOutcome::Fits => {}
             LineOutcome::Unfit => {
                 return Ok(Report::Refused(LogRefusal::Replay { line: number }));
@@ -184,17 +150,17 @@ fn verify_each<O: Outside>(
                 }));
             }
         }
-        rest = behind(rest, number);
+        motions += due.pass(alloc, number)?;
     }
     if number == 0 {
         return Ok(Report::Refused(LogRefusal::Replay { line: 1 }));
     }
-    match first_line(rest) {
+    match due.first_line() {
         Some(line) => Ok(Report::Refused(LogRefusal::Motion {
             line,
             verdict: Verdict::NoMotion,
         })),
-        None => verified_report(alloc, proofs.len()),
+        None => verified_report(alloc, motions),
     }
 }
 
@@ -202,19 +168,21 @@ fn verify_each<O: Outside>(
 fn verify_lines<O: Outside>(
     alloc: Global,
     mesh: JournalMesh,
-    lines: &[LogLine],
-    proofs: &[ProofAt],
+    lines: LogReader,
+    proofs: ProofReader,
     outside: &mut O,
 ) -> Result<Report, NoMemory>
     requires valid { IsValidSurface (mesh_in mesh) }
-    requires few { length lines.now < 2 ^ 31 }
-    requires order { AreProofs (proofs_view proofs.now) }
-    ensures verifies { IfOk result (VerifiesLines (mesh_in mesh) lines.now (proofs_view proofs.now)) }
+    requires few { length lines < 2 ^ 31 }
+    requires order { AreProofs proofs }
+    ensures verifies { IfOk result (VerifiesLines (mesh_in mesh) lines proofs) }
     ensures same { O.around outside.new ≡ O.around outside.old }
 {
     fitting_lines_are_safe();
+    let mut lines = lines;
+    let mut due = DueProofs::of(alloc, proofs)?;
     let mut run = LogRun::new(alloc, mesh);
-    verify_each(alloc, &mut run, lines, proofs, outside)
+    verify_each(alloc, &mut run, &mut lines, &mut due, outside)
 }
 
 // Fetches and reads a mesh, a log and a proof, and tests the proof. Nothing is written.
@@ -231,8 +199,7 @@ fn verify_files<O: Outside>(
     match prepare_proof(alloc, given, outside)? {
         Inputs::No(why) => Ok(Report::Refused(why)),
         Inputs::Yes(mesh, lines, proofs) => {
-            let proofs = proofs.as_slice();
-            Ok(verify_lines(alloc, mesh, lines.as_slice(), proofs, outside)?)
+            Ok(verify_lines(alloc, mesh, lines, proofs, outside)?)
         }
     }
 }

@@ -254,40 +254,46 @@ module _ (only : Option ℕ) (to : Target) (m : Mesh) (lines : List LogLine) whe
         let P : ℕ → Type 0 = λ k. Tells (replayed_text k) b c r in
         finish (front_texts so_far.front) None ends (ap (wanted_of only to (at_mesh m)) (sym all_are)) a b c so_far.stores so_far.counts r (subst P so_far.count_is t) same
 
-  -- ---- by the place in the list of lines
+  -- ---- by the line that is taken off those that are left
 
   -- the way is heard, and outside nothing has changed
   pub heard : (left : List LogLine) (run : LogState) (count number : ℕ) (a b c : Around) → Replaying left run count number a b → c ≡ b → Replaying left run count number a c
   heard left run count number a b c h same = let P : Around → Type 0 = λ w. Replaying left run count number a w in subst P (sym same) h
 
-  module _ (i : ℕ) (line : LogLine) (lt : i < length lines) (at : line ≡ get_or lines i line) (run : LogState) (count number : ℕ) (a b c : Around) (h : Replaying (drop i lines) run count number a b) (same : c ≡ b) where
-    pub here : Replaying (line ∷ drop (i + 1) lines) run count number a c
-    here =
-        let P : List LogLine → Type 0 = λ l. Replaying l run count number a c in
-        subst P (drop_more lines i line lt ∙ ap (λ (x : LogLine). x ∷ drop (i + 1) lines) (sym at)) (heard (drop i lines) run count number a b c h same)
+  module _ (left : List LogLine) (run : LogState) (count number : ℕ) (a b : Around) (h : Replaying left run count number a b) where
+    -- memory is wanting before it is known whether a line is left
+    pub forgotten_before : ReplaysLines only to m lines a b (Err NoMemory)
+    forgotten_before = record {
+      done = forgets h.front left h.split h.fit (holds_of a) (holds_of b) h.stores;
+      counts = counts_forgotten a b _ h.counts;
+    }
 
-    pub forgotten_here : ReplaysLines only to m lines a c (Err NoMemory)
-    forgotten_here = line_forgotten line (drop (i + 1) lines) run count number a c here
+    module _ (line : LogLine) (more : List LogLine) (is : left ≡ line ∷ more) (c : Around) (same : c ≡ b) where
+      pub here : Replaying (line ∷ more) run count number a c
+      here = subst (λ (l : List LogLine). Replaying l run count number a c) is (heard left run count number a b c h same)
 
-    pub refused_here : (fits : Bool) → IsTrue fits ↔ FitsTested run line → fits ≡ false → (d : Around) (r : Result (Option LogRefusal) Stop) → Tells (refused_text (log.Replay (number + 1))) c d r → IfOk r (λ x. x ≡ Some (log.Replay (number + 1))) → ReplaysLines only to m lines a d r
-    refused_here fits is missed d r t ends = line_refused line (drop (i + 1) lines) run count number a c here (λ f. false≢true (sym missed ∙ is.1 f)) d r t ends
+      pub forgotten_here : ReplaysLines only to m lines a c (Err NoMemory)
+      forgotten_here = line_forgotten line more run count number a c here
 
-    module _ (fits : Bool) (is : IsTrue fits ↔ FitsTested run line) (fits_is : fits ≡ true) (next : LogState) (taken : next ≡ with_line run line) (d : Around) where
-      pub few_here : (more : ℕ) → StoresCounted (wanted_at only to next.replay line) c d (Ok more) → count + more ≤ length lines
-      few_here more found = few_more line (drop (i + 1) lines) run count number a c here (is.0 fits_is) next taken more d found
+      pub refused_here : (fits : Bool) → IsTrue fits ↔ FitsTested run line → fits ≡ false → (d : Around) (r : Result (Option LogRefusal) Stop) → Tells (refused_text (log.Replay (number + 1))) c d r → IfOk r (λ x. x ≡ Some (log.Replay (number + 1))) → ReplaysLines only to m lines a d r
+      refused_here fits is missed d r t ends = line_refused line more run count number a c here (λ f. false≢true (sym missed ∙ is.1 f)) d r t ends
 
-      pub more_here : (more : ℕ) → StoresCounted (wanted_at only to next.replay line) c d (Ok more) → IsValidState next → Replaying (drop (i + 1) lines) next (count + more) (number + 1) a d
-      more_here more found valid = one_more line (drop (i + 1) lines) run count number a c here (is.0 fits_is) next taken more d found valid
+      module _ (fits : Bool) (is : IsTrue fits ↔ FitsTested run line) (fits_is : fits ≡ true) (next : LogState) (taken : next ≡ with_line run line) (d : Around) where
+        pub few_here : (k : ℕ) → StoresCounted (wanted_at only to next.replay line) c d (Ok k) → count + k ≤ length lines
+        few_here k found = few_more line more run count number a c here (is.0 fits_is) next taken k d found
 
-      pub stops_here : (stop : Stop) → StoresCounted (wanted_at only to next.replay line) c d (Err stop) → ReplaysLines only to m lines a d (Err stop)
-      stops_here stop found = line_stops line (drop (i + 1) lines) run count number a c here (is.0 fits_is) next taken stop d found
+        pub more_here : (k : ℕ) → StoresCounted (wanted_at only to next.replay line) c d (Ok k) → IsValidState next → Replaying more next (count + k) (number + 1) a d
+        more_here k found valid = one_more line more run count number a c here (is.0 fits_is) next taken k d found valid
 
-  module _ (i : ℕ) (le : length lines ≤ i) (run : LogState) (count number : ℕ) (a b c : Around) (h : Replaying (drop i lines) run count number a b) where
-    at_end : Replaying [] run count number a b
-    at_end = let P : List LogLine → Type 0 = λ l. Replaying l run count number a b in subst P (drop_all i lines le) h
+        pub stops_here : (stop : Stop) → StoresCounted (wanted_at only to next.replay line) c d (Err stop) → ReplaysLines only to m lines a d (Err stop)
+        stops_here stop found = line_stops line more run count number a c here (is.0 fits_is) next taken stop d found
 
-    pub no_line_here : number ≡ 0 → (r : Result (Option LogRefusal) Stop) → Tells (refused_text (log.Replay 1)) b c r → IfOk r (λ x. x ≡ Some (log.Replay 1)) → ReplaysLines only to m lines a c r
-    no_line_here zero_is r t same = none_at_all run count number a b c at_end zero_is r t same
+    module _ (none : left ≡ []) (c : Around) where
+      at_end : Replaying [] run count number a b
+      at_end = subst (λ (l : List LogLine). Replaying l run count number a b) none h
 
-    pub done_here : (number ≡ 0 → ⊥) → (r : Result (Option LogRefusal) Stop) → Tells (replayed_text count) b c r → IfOk r (λ x. x ≡ None) → ReplaysLines only to m lines a c r
-    done_here some r t same = all_done run count number a b c at_end some r t same
+      pub no_line_here : number ≡ 0 → (r : Result (Option LogRefusal) Stop) → Tells (refused_text (log.Replay 1)) b c r → IfOk r (λ x. x ≡ Some (log.Replay 1)) → ReplaysLines only to m lines a c r
+      no_line_here zero_is r t same = none_at_all run count number a b c at_end zero_is r t same
+
+      pub done_here : (number ≡ 0 → ⊥) → (r : Result (Option LogRefusal) Stop) → Tells (replayed_text count) b c r → IfOk r (λ x. x ≡ None) → ReplaysLines only to m lines a c r
+      done_here some r t same = all_done run count number a b c at_end some r t same

@@ -14,9 +14,9 @@ ghost use Rattle.track_replay.specs.Headline.{Replays, ReplaysLines};
 
 use crate::mesh_files::store_line;
 use line_text::{Field, put_line};
+use log_read::LogReader;
 use log_run::LogRun;
 use log_run::laws::fitting_lines_are_safe;
-use log_text::LogLine;
 use mesh_journal::JournalMesh;
 use outside_io::{Fact, Outside, Stop};
 use std::alloc::Global;
@@ -41,28 +41,28 @@ fn tell_count<O: Outside>(alloc: Global, count: u32, outside: &mut O) -> Result<
 fn replay_each<O: Outside>(
     alloc: Global,
     run: &mut LogRun,
-    lines: &[LogLine],
+    lines: &mut LogReader,
     only: Option<u32>,
     to: Target<'_>,
     outside: &mut O,
 ) -> Result<Option<LogRefusal>, Stop>
     requires fresh { run.old ≡ without_lines run.old.replay.mesh }
     requires valid { IsValidState run.old }
-    requires few_lines { length lines.now < 2 ^ 31 }
+    requires few_lines { length lines.old < 2 ^ 31 }
     requires few_decimals { to.decimals ≤ DECIMALS_MAX }
     ensures { let mesh = run.old.replay.mesh in
-        ReplaysLines only (target_of to.entry) mesh lines.now
+        ReplaysLines only (target_of to.entry) mesh lines.old
         (O.around outside.old) (O.around outside.new) result }
 {
     let mut count: u32 = 0;
     let mut number: u32 = 0;
-    for line in lines {
+    while let Some(line) = lines.take_first(alloc)? {
         number += 1;
         outside.hear(Fact::Taken { lines: number });
-        if !take_tested(alloc, run, line)? {
+        if !take_tested(alloc, run, &line)? {
             return refuse(alloc, &LogRefusal::Replay { line: number }, outside);
         }
-        let more = store_line(alloc, run, line, only, to, outside)?;
+        let more = store_line(alloc, run, &line, only, to, outside)?;
         count += more;
     }
     if number == 0 {
@@ -76,21 +76,22 @@ fn replay_each<O: Outside>(
 fn replay_lines<O: Outside>(
     alloc: Global,
     mesh: JournalMesh,
-    lines: &[LogLine],
+    lines: LogReader,
     only: Option<u32>,
     to: Target<'_>,
     outside: &mut O,
 ) -> Result<Option<LogRefusal>, Stop>
     requires valid { IsValidSurface (mesh_in mesh) }
-    requires few_lines { length lines.now < 2 ^ 31 }
+    requires few_lines { length lines < 2 ^ 31 }
     requires few_decimals { to.decimals ≤ DECIMALS_MAX }
     ensures { let mesh = mesh_in mesh in
-        ReplaysLines only (target_of to.entry) mesh lines.now
+        ReplaysLines only (target_of to.entry) mesh lines
         (O.around outside.old) (O.around outside.new) result }
 {
     fitting_lines_are_safe();
+    let mut lines = lines;
     let mut run = LogRun::new(alloc, mesh);
-    replay_each(alloc, &mut run, lines, only, to, outside)
+    replay_each(alloc, &mut run, &mut lines, only, to, outside)
 }
 
 /// Makes the meshes of a log again: the mesh file and the file of the log are fetched and read, the points with so many decimals, the lines
@@ -117,7 +118,7 @@ pub fn replay<O: Outside>(
                 prefix: given.prefix,
                 decimals: given.files.decimals,
             };
-            replay_lines(alloc, mesh, lines.as_slice(), given.only, to, outside)
+            replay_lines(alloc, mesh, lines, given.only, to, outside)
         },
     }
 }

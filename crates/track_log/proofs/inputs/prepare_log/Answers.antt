@@ -8,4 +8,4 @@ returns-in-No-clause-prepares g c = prepares_refused _ (log_names c.args.files) 
 pub returns-in_ok-read_and_test-in-Yes-clause-prepares : goal.returns-in_ok-read_and_test-in-Yes-clause-prepares
 returns-in_ok-read_and_test-in-Yes-clause-prepares g c =
     prepares_read _ (log_names c.args.files) c.in_ok-why.field-0 c.in-Yes.mesh c.in-Yes.log c.in-Yes.is c.in_ok-why.ensures.fetches
-    c.deref.result.now c.deref-in-Yes.result.now c.deref.ensures.value c.deref-in-Yes.ensures.value c.in_ok-read_and_test-in-Yes.field-0 c.in_ok-read_and_test-in-Yes.ensures
+    c.deref.result.now c.deref.ensures.value c.in_ok-read_and_test-in-Yes.field-0 c.in_ok-read_and_test-in-Yes.ensures

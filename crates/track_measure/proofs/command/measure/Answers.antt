@@ -24,12 +24,9 @@ pub measure_lines-requires-clause-valid : goal.measure_lines-requires-clause-val
 measure_lines-requires-clause-valid g c = (subst IsPrepared c.in-Yes.is c.in_ok-why.ensures.prepares.ready).0
 
 pub measure_lines-requires-clause-few : goal.measure_lines-requires-clause-few
-measure_lines-requires-clause-few g c =
-    let P : List LogLine → Type 0 = λ l. length l < 2 ^ 31 in
-    subst P (sym c.as_slice.ensures) (subst IsPrepared c.in-Yes.is c.in_ok-why.ensures.prepares.ready).1
+measure_lines-requires-clause-few g c = (subst IsPrepared c.in-Yes.is c.in_ok-why.ensures.prepares.ready).1
 
 pub returns-in-Yes-clause-headline : goal.returns-in-Yes-clause-headline
 returns-in-Yes-clause-headline g c =
-    let P : List LogLine → Type 0 = λ l. MeasuresLines (mesh_in c.in-Yes.mesh) l (g.O.Outside.around c.prepare_log.new.outside) (g.O.Outside.around c.measure_lines.new.outside) c.measure_lines.result in
     measures_taken (log_names c.args.files) (g.O.Outside.around c.args.outside.now) (g.O.Outside.around c.prepare_log.new.outside) (g.O.Outside.around c.measure_lines.new.outside) _ c.in_ok-why.ensures.looks c.in_ok-why.field-0 c.in_ok-why.ensures.prepares c.measure_lines.result
-    c.in-Yes.mesh c.in-Yes.lines c.in-Yes.is (subst P c.as_slice.ensures c.measure_lines.ensures)
+    c.in-Yes.mesh c.in-Yes.lines c.in-Yes.is c.measure_lines.ensures

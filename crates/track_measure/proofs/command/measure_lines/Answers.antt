@@ -14,5 +14,5 @@ measure_each-requires-clause-valid g c = subst IsValidState (sym c.new-run.ensur
 
 pub returns : goal.returns
 returns g c =
-    let P : Mesh → Type 0 = λ m. MeasuresLines m c.args.lines.now (g.O.Outside.around c.args.outside.now) (g.O.Outside.around c.measure_each.new.outside) c.measure_each.result in
+    let P : Mesh → Type 0 = λ m. MeasuresLines m c.args.lines (g.O.Outside.around c.args.outside.now) (g.O.Outside.around c.measure_each.new.outside) c.measure_each.result in
     subst P (ap (λ (s : LogState). s.replay.mesh) c.new-run.ensures) c.measure_each.ensures

@@ -15,5 +15,5 @@ prove_each-requires-clause-valid g c = subst IsValidState (sym c.new-run.ensures
 
 pub returns-clause-proves : goal.returns-clause-proves
 returns-clause-proves g c =
-    let P : Mesh → Type 0 = λ m. IfOk c.prove_each.result (ProvesLines m c.args.lines.now) in
+    let P : Mesh → Type 0 = λ m. IfOk c.prove_each.result (ProvesLines m c.args.lines) in
     subst P (ap (λ (s : LogState). s.replay.mesh) c.new-run.ensures) c.prove_each.ensures.proves

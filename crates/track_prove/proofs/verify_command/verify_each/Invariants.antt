@@ -1,8 +1,10 @@
-use Rattle.std.proofs.Common.{◌≡◌, drop}
-use Rattle.proof_text.specs.Views.{proofs_view}
+use Rattle.std.proofs.Common.{◌≡◌, length}
 use Rattle.track_prove.proofs.VerifiedLines.{Verifying}
 use Rattle.track_prove.proofs.verify_command.verify_each.Given as goal
 
 -- the lines so far stand, each by its certificate, and the others are left; and outside nothing has changed
 abbrev pub invariant-loop-line : goal.invariant-loop-line
-invariant-loop-line g l = (Verifying l.fn.run.replay.mesh l.lines (proofs_view l.proofs) (drop l.line-index l.lines) l.run l.number (proofs_view l.rest)) × (g.O.Outside.around l.outside ≡ g.O.Outside.around l.fn.outside)
+invariant-loop-line g l = (Verifying l.fn.run.replay.mesh l.fn.lines l.fn.due l.lines l.run l.number l.motions l.due) × (g.O.Outside.around l.outside ≡ g.O.Outside.around l.fn.outside)
+
+abbrev pub decreases-loop-line : goal.decreases-loop-line
+decreases-loop-line g l = length l.lines

@@ -2,7 +2,6 @@ use Rattle.std.proofs.Common.{refl, ap, sym, subst}
 use Rattle.std.specs.Prelude.{IfOk}
 use Rattle.mesh_base.specs.Mesh.{Mesh}
 use Rattle.mesh_journal.specs.Journal.{mesh_in}
-use Rattle.proof_text.specs.Views.{proofs_view}
 use Rattle.log_run.specs.Laws.{IsValidState}
 use Rattle.log_run.specs.States.{LogState}
 use Rattle.track_prove.specs.Doing.{VerifiesLines}
@@ -16,5 +15,5 @@ verify_each-requires-clause-valid g c = subst IsValidState (sym c.new-run.ensure
 
 pub returns-clause-verifies : goal.returns-clause-verifies
 returns-clause-verifies g c =
-    let P : Mesh → Type 0 = λ m. IfOk c.verify_each.result (VerifiesLines m c.args.lines.now (proofs_view c.args.proofs.now)) in
+    let P : Mesh → Type 0 = λ m. IfOk c.verify_each.result (VerifiesLines m c.args.lines c.args.proofs) in
     subst P (ap (λ (s : LogState). s.replay.mesh) c.new-run.ensures) c.verify_each.ensures.verifies

@@ -22,13 +22,10 @@ pub replay_lines-requires-clause-valid : goal.replay_lines-requires-clause-valid
 replay_lines-requires-clause-valid g c = (subst IsPrepared c.in-Yes.is c.in_ok-why.ensures.prepares.ready).0
 
 pub replay_lines-requires-clause-few_lines : goal.replay_lines-requires-clause-few_lines
-replay_lines-requires-clause-few_lines g c =
-    let P : List LogLine → Type 0 = λ l. length l < 2 ^ 31 in
-    subst P (sym c.as_slice.ensures) (subst IsPrepared c.in-Yes.is c.in_ok-why.ensures.prepares.ready).1
+replay_lines-requires-clause-few_lines g c = (subst IsPrepared c.in-Yes.is c.in_ok-why.ensures.prepares.ready).1
 
 pub returns-in-Yes-clause-headline : goal.returns-in-Yes-clause-headline
 returns-in-Yes-clause-headline g c =
     let names = replay_names c.args.given in
-    let P : List LogLine → Type 0 = λ l. ReplaysLines names.only (target_in names) (mesh_in c.in-Yes.mesh) l (g.O.Outside.around c.prepare_log.new.outside) (g.O.Outside.around c.replay_lines.new.outside) c.replay_lines.result in
     replays_taken names (g.O.Outside.around c.args.outside.now) (g.O.Outside.around c.prepare_log.new.outside) (g.O.Outside.around c.replay_lines.new.outside) _ c.in_ok-why.ensures.looks c.in_ok-why.field-0 c.in_ok-why.ensures.prepares c.replay_lines.result
-    c.in-Yes.mesh c.in-Yes.lines c.in-Yes.is (subst P c.as_slice.ensures c.replay_lines.ensures)
+    c.in-Yes.mesh c.in-Yes.lines c.in-Yes.is c.replay_lines.ensures

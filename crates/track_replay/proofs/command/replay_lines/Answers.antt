@@ -15,5 +15,5 @@ replay_each-requires-clause-valid g c = subst IsValidState (sym c.new-run.ensure
 
 pub returns : goal.returns
 returns g c =
-    let P : Mesh → Type 0 = λ m. ReplaysLines c.args.only (target_of c.args.to) m c.args.lines.now (g.O.Outside.around c.args.outside.now) (g.O.Outside.around c.replay_each.new.outside) c.replay_each.result in
+    let P : Mesh → Type 0 = λ m. ReplaysLines c.args.only (target_of c.args.to) m c.args.lines (g.O.Outside.around c.args.outside.now) (g.O.Outside.around c.replay_each.new.outside) c.replay_each.result in
     subst P (ap (λ (s : LogState). s.replay.mesh) c.new-run.ensures) c.replay_each.ensures
