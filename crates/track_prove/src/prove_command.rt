@@ -119,7 +119,9 @@ fn prove_each<O: Outside>(
     while let Some(line) = lines.take_first(alloc)? {
         number += 1;
         outside.hear(Fact::Taken { lines: number });
-        match prove_line(run, number, &line, proofs)? {
+        let outcome = prove_line(run, number, &line, proofs)?;
+        drop(line);
+        match outcome {
             LineOutcome::Fits => {}
             LineOutcome::Unfit => {
                 return Ok(Report::Refused(LogRefusal::Replay { line: number }));

@@ -31,19 +31,19 @@ pub returns-in_err-measure_line : goal.returns-in_err-measure_line
 returns-in_err-measure_line g c =
     let p = err_from_is_err_and c.from_residual-in_err-measure_line.result c.from_residual-in_err-measure_line.ensures.1 in
     rw (p.1, p.2) (stops_here c.args.run.now.replay.mesh c.args.lines.now c.loop-line.lines c.loop-line.run c.loop-line.shape c.loop-line.number
-    (g.O.Outside.around c.args.outside.now) (g.O.Outside.around c.loop-line.outside) c.loop-line.invariant LINE c.take_first.new.self TAKEN (g.O.Outside.around c.measure_line.new.outside) _ (told_since _ c.loop-line.run LINE (g.O.Outside.around c.loop-line.outside) (g.O.Outside.around c.hear.new.self) (g.O.Outside.around c.measure_line.new.outside) _ c.hear.ensures c.in_err-measure_line.ensures.measures))
+    (g.O.Outside.around c.args.outside.now) (g.O.Outside.around c.loop-line.outside) c.loop-line.invariant c.in-Some.line c.take_first.new.self TAKEN (g.O.Outside.around c.measure_line.new.outside) _ (told_since _ c.loop-line.run LINE (g.O.Outside.around c.loop-line.outside) (g.O.Outside.around c.hear.new.self) (g.O.Outside.around c.measure_line.new.outside) _ c.hear.ensures c.in_err-measure_line.ensures.measures))
 
 pub returns-then-not-branch : goal.returns-then-not-branch
 returns-then-not-branch g c =
     refused_here c.args.run.now.replay.mesh c.args.lines.now c.loop-line.lines c.loop-line.run c.loop-line.shape c.loop-line.number
-    (g.O.Outside.around c.args.outside.now) (g.O.Outside.around c.loop-line.outside) c.loop-line.invariant LINE c.take_first.new.self TAKEN (g.O.Outside.around c.measure_line.new.outside) c.in_ok-measure_line.field-0 c.if-not-branch.true (told_since _ c.loop-line.run LINE (g.O.Outside.around c.loop-line.outside) (g.O.Outside.around c.hear.new.self) (g.O.Outside.around c.measure_line.new.outside) _ c.hear.ensures c.in_ok-measure_line.ensures.measures)
+    (g.O.Outside.around c.args.outside.now) (g.O.Outside.around c.loop-line.outside) c.loop-line.invariant c.in-Some.line c.take_first.new.self TAKEN (g.O.Outside.around c.measure_line.new.outside) c.in_ok-measure_line.field-0 c.if-not-branch.true (told_since _ c.loop-line.run LINE (g.O.Outside.around c.loop-line.outside) (g.O.Outside.around c.hear.new.self) (g.O.Outside.around c.measure_line.new.outside) _ c.hear.ensures c.in_ok-measure_line.ensures.measures)
     (g.O.Outside.around c.refuse.new.outside) c.refuse.result c.refuse.ensures.tells c.refuse.ensures.ending
 
 pub loop-line-preserved : goal.loop-line-preserved
 loop-line-preserved g c =
     let yes = c.if-not-branch.false in
     more_here c.args.run.now.replay.mesh c.args.lines.now c.loop-line.lines c.loop-line.run c.loop-line.shape c.loop-line.number
-    (g.O.Outside.around c.args.outside.now) (g.O.Outside.around c.loop-line.outside) c.loop-line.invariant LINE c.take_first.new.self TAKEN (g.O.Outside.around c.measure_line.new.outside) c.in_ok-measure_line.field-0 yes (told_since _ c.loop-line.run LINE (g.O.Outside.around c.loop-line.outside) (g.O.Outside.around c.hear.new.self) (g.O.Outside.around c.measure_line.new.outside) _ c.hear.ensures c.in_ok-measure_line.ensures.measures)
+    (g.O.Outside.around c.args.outside.now) (g.O.Outside.around c.loop-line.outside) c.loop-line.invariant c.in-Some.line c.take_first.new.self TAKEN (g.O.Outside.around c.measure_line.new.outside) c.in_ok-measure_line.field-0 yes (told_since _ c.loop-line.run LINE (g.O.Outside.around c.loop-line.outside) (g.O.Outside.around c.hear.new.self) (g.O.Outside.around c.measure_line.new.outside) _ c.hear.ensures c.in_ok-measure_line.ensures.measures)
     c.measure_line.new.run c.measure_line.new.shape (c.in_ok-measure_line.ensures.taken (ap Ok yes)) (c.in_ok-measure_line.ensures.valid (ap Ok yes)) (c.in_ok-measure_line.ensures.shape (ap Ok yes))
 
 pub returns-then-number-eq0 : goal.returns-then-number-eq0
