@@ -173,9 +173,7 @@ fn prove_files<O: Outside>(
 {
     match prepare_log(alloc, files, outside)? {
         PreparedLog::No(why) => Ok(Report::Refused(why)),
-        PreparedLog::Yes(mesh, lines) => {
-            Ok(prove_lines(alloc, mesh, lines, outside)?)
-        },
+        PreparedLog::Yes(mesh, lines) => { Ok(prove_lines(alloc, mesh, lines, outside)?) },
     }
 }
 

@@ -1,4 +1,4 @@
-use Rattle.std.proofs.Common.{◌∙◌, length, ap, refl, arith, Ok}
+use Rattle.std.proofs.Common.{◌∙◌, ap, refl, arith, Ok}
 use Rattle.track_prove.proofs.VerifiedLines.{verifying_none, verifying_unspent, verifying_few, verifying_unfit, verifying_bad, verifying_count, verifying_more, verifying_no_line, verifying_beyond, verifying_end}
 use Rattle.track_prove.proofs.verify_command.verify_each.Goals as goal
 

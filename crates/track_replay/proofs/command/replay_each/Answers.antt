@@ -20,7 +20,7 @@ take_tested-requires-clause-valid g c = c.loop-line.invariant.valid
 
 pub returns-in_err-line : goal.returns-in_err-line
 returns-in_err-line g c =
-    let p = err_from_is_err_and c.from_residual-in_err-line.result c.from_residual-in_err-line.ensures.1 in
+    let p = err_from_is_err_and c.from_residual.result c.from_residual.ensures.1 in
     rw (p.1, p.2) (forgotten_before c.args.only (target_of c.args.to) c.args.run.now.replay.mesh c.args.lines.now c.loop-line.lines c.loop-line.run c.loop-line.count c.loop-line.number
     (g.O.Outside.around c.args.outside.now) (g.O.Outside.around c.loop-line.outside) c.loop-line.invariant)
 
