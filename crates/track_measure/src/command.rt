@@ -122,7 +122,9 @@ fn measure_each<O: Outside>(
     while let Some(line) = lines.take_first(alloc)? {
         number += 1;
         outside.hear(Fact::Taken { lines: number });
-        if !measure_line(alloc, run, number, &line, &mut shape, outside)? {
+        let fits = measure_line(alloc, run, number, &line, &mut shape, outside)?;
+        drop(line);
+        if !fits {
             return refuse(alloc, &LogRefusal::Replay { line: number }, outside);
         }
     }

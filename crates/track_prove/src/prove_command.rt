@@ -119,7 +119,9 @@ fn prove_each<O: Outside>(
     while let Some(line) = lines.take_first(alloc)? {
         number += 1;
         outside.hear(Fact::Taken { lines: number });
-        match prove_line(run, number, &line, proofs)? {
+        let outcome = prove_line(run, number, &line, proofs)?;
+        drop(line);
+        match outcome {
             LineOutcome::Fits => {}
             LineOutcome::Unfit => {
                 return Ok(Report::Refused(LogRefusal::Replay { line: number }));
@@ -171,9 +173,7 @@ fn prove_files<O: Outside>(
 {
     match prepare_log(alloc, files, outside)? {
         PreparedLog::No(why) => Ok(Report::Refused(why)),
-        PreparedLog::Yes(mesh, lines) => {
-            Ok(prove_lines(alloc, mesh, lines, outside)?)
-        },
+        PreparedLog::Yes(mesh, lines) => { Ok(prove_lines(alloc, mesh, lines, outside)?) },
     }
 }
 

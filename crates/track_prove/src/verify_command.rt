@@ -138,7 +138,9 @@ fn verify_each<O: Outside>(
     while let Some(line) = lines.take_first(alloc)? {
         number += 1;
         outside.hear(Fact::Taken { lines: number });
-        match verify_line(run, number, &line, due)? {
+        let outcome = verify_line(run, number, &line, due)?;
+        drop(line);
+        match outcome {
             LineOutcome::Fits => {}
             LineOutcome::Unfit => {
                 return Ok(Report::Refused(LogRefusal::Replay { line: number }));

@@ -1,8 +1,8 @@
 -- The lines of a log that are replayed so far, and how it ends behind them.
-use Rattle.std.proofs.Common.{◌≡◌, inl, inr, ℕ, ◌+◌, ◌-◌, ◌<◌, ◌≤◌, Bool, true, false, List, [], ◌∷◌, ◌++◌, append-nil, append_assoc, length, take, drop, get_or, Option, Some, None, Result, Ok, Err, IfOk, refl, ap, sym, ◌∙◌, subst, arith}
+use Rattle.std.proofs.Common.{◌≡◌, inl, inr, ℕ, ◌+◌, ◌-◌, ◌<◌, ◌≤◌, Bool, true, false, List, [], ◌∷◌, ◌++◌, append-nil, append_assoc, length, take, Option, Some, None, Result, Ok, Err, IfOk, refl, ap, sym, ◌∙◌, subst, arith}
 use Rattle.std.specs.Prelude.{◌↔◌, IsTrue}
 use Rattle.std.proofs.lemmas.Bool.{false≢true}
-use Rattle.std.proofs.lemmas.List.{length-append, drop_all, drop_more}
+use Rattle.std.proofs.lemmas.List.{length-append}
 use Rattle.mesh_base.specs.Mesh.{Mesh}
 use Rattle.log_text.specs.declared.LogLine.{LogLine}
 use Rattle.log_replay.specs.Replay.{Replay, after, at_mesh}
@@ -268,9 +268,9 @@ module _ (only : Option ℕ) (to : Target) (m : Mesh) (lines : List LogLine) whe
       counts = counts_forgotten a b _ h.counts;
     }
 
-    module _ (line : LogLine) (more : List LogLine) (is : left ≡ line ∷ more) (c : Around) (same : c ≡ b) where
+    module _ (line : LogLine) (more : List LogLine) (first : left ≡ line ∷ more) (c : Around) (same : c ≡ b) where
       pub here : Replaying (line ∷ more) run count number a c
-      here = subst (λ (l : List LogLine). Replaying l run count number a c) is (heard left run count number a b c h same)
+      here = subst (λ (l : List LogLine). Replaying l run count number a c) first (heard left run count number a b c h same)
 
       pub forgotten_here : ReplaysLines only to m lines a c (Err NoMemory)
       forgotten_here = line_forgotten line more run count number a c here

@@ -63,6 +63,7 @@ fn replay_each<O: Outside>(
             return refuse(alloc, &LogRefusal::Replay { line: number }, outside);
         }
         let more = store_line(alloc, run, &line, only, to, outside)?;
+        drop(line);
         count += more;
     }
     if number == 0 {

@@ -20,23 +20,23 @@ prove_line-requires-clause-valid g c = c.loop-line.invariant.0.judging.valid
 
 pub returns-in-Unfit-clause-proves : goal.returns-in-Unfit-clause-proves
 returns-in-Unfit-clause-proves g c =
-    proving_unfit c.args.run.now.replay.mesh c.args.lines.now c.loop-line.lines LINE c.take_first.new.self TAKEN c.loop-line.run c.loop-line.number c.loop-line.proofs c.loop-line.invariant.0
-    c.in_ok-prove_line.field-0 c.in_ok-prove_line.ensures.told c.in-Unfit.is
+    proving_unfit c.args.run.now.replay.mesh c.args.lines.now c.loop-line.lines c.in-Some.line c.take_first.new.self (rw c.in-Some.is at c.in_ok-line.ensures) c.loop-line.run c.loop-line.number c.loop-line.proofs c.loop-line.invariant.0
+    c.in_ok-outcome.outcome c.in_ok-outcome.ensures.told c.in-Unfit.is
 
 pub returns-in-Bad-clause-proves : goal.returns-in-Bad-clause-proves
 returns-in-Bad-clause-proves g c =
-    proving_bad c.args.run.now.replay.mesh c.args.lines.now c.loop-line.lines LINE c.take_first.new.self TAKEN c.loop-line.run c.loop-line.number c.loop-line.proofs c.loop-line.invariant.0
-    c.in_ok-prove_line.field-0 c.in_ok-prove_line.ensures.told c.in-Bad.verdict c.in-Bad.is
+    proving_bad c.args.run.now.replay.mesh c.args.lines.now c.loop-line.lines c.in-Some.line c.take_first.new.self (rw c.in-Some.is at c.in_ok-line.ensures) c.loop-line.run c.loop-line.number c.loop-line.proofs c.loop-line.invariant.0
+    c.in_ok-outcome.outcome c.in_ok-outcome.ensures.told c.in-Bad.verdict c.in-Bad.is
 
 pub loop-line-preserved : goal.loop-line-preserved
 loop-line-preserved g c = (
-  proving_more c.args.run.now.replay.mesh c.args.lines.now c.loop-line.lines LINE c.take_first.new.self TAKEN c.loop-line.run c.loop-line.number c.loop-line.proofs c.loop-line.invariant.0
-      c.in_ok-prove_line.field-0 c.in_ok-prove_line.ensures.told c.in-Fits.is c.prove_line.new.run c.prove_line.new.proofs (c.in_ok-prove_line.ensures.goes (ap Ok c.in-Fits.is)) (c.in_ok-prove_line.ensures.proofs (ap Ok c.in-Fits.is)),
+  proving_more c.args.run.now.replay.mesh c.args.lines.now c.loop-line.lines c.in-Some.line c.take_first.new.self (rw c.in-Some.is at c.in_ok-line.ensures) c.loop-line.run c.loop-line.number c.loop-line.proofs c.loop-line.invariant.0
+      c.in_ok-outcome.outcome c.in_ok-outcome.ensures.told c.in-Fits.is c.prove_line.new.run c.prove_line.new.proofs (c.in_ok-outcome.ensures.goes (ap Ok c.in-Fits.is)) (c.in_ok-outcome.ensures.proofs (ap Ok c.in-Fits.is)),
   c.hear.ensures ∙ c.loop-line.invariant.1,
 )
 
 pub returns-then-number-eq0-clause-proves : goal.returns-then-number-eq0-clause-proves
-returns-then-number-eq0-clause-proves g c = proving_no_line c.args.run.now.replay.mesh c.args.lines.now c.loop-line.lines NONE c.loop-line.run c.loop-line.number c.loop-line.proofs c.loop-line.invariant.0 c.if-number-eq0.true
+returns-then-number-eq0-clause-proves g c = proving_no_line c.args.run.now.replay.mesh c.args.lines.now c.loop-line.lines (rw c.in_default.is at c.in_ok-line.ensures).0 c.loop-line.run c.loop-line.number c.loop-line.proofs c.loop-line.invariant.0 c.if-number-eq0.true
 
 pub returns-clause-proves : goal.returns-clause-proves
-returns-clause-proves g c = proving_done c.args.run.now.replay.mesh c.args.lines.now c.loop-line.lines NONE c.loop-line.run c.loop-line.number c.loop-line.proofs c.loop-line.invariant.0 c.if-number-eq0.false (Text c.in_ok-text.text) c.in_ok-text.ensures
+returns-clause-proves g c = proving_done c.args.run.now.replay.mesh c.args.lines.now c.loop-line.lines (rw c.in_default.is at c.in_ok-line.ensures).0 c.loop-line.run c.loop-line.number c.loop-line.proofs c.loop-line.invariant.0 c.if-number-eq0.false (Text c.in_ok-text.text) c.in_ok-text.ensures

@@ -1,10 +1,7 @@
-use Rattle.std.proofs.Common.{sym, subst, ◌<◌, ◌^◌, List, length}
+use Rattle.std.proofs.Common.{subst}
 use Rattle.std.proofs.lemmas.Result.{err_from_is_err_and}
-use Rattle.mesh_journal.specs.Journal.{mesh_in}
-use Rattle.log_text.specs.declared.LogLine.{LogLine}
 use Rattle.track_input.specs.Named.{replay_names}
 use Rattle.track_log.specs.Preparing.{IsPrepared}
-use Rattle.track_replay.specs.Headline.{target_in, ReplaysLines}
 use Rattle.track_replay.proofs.Whole.{replays_stopped, replays_refused, replays_taken}
 use Rattle.track_replay.proofs.command.replay.Goals as goal
 
