@@ -215,7 +215,7 @@ call_good scale (Sets set) s room may = record {
 -- ---- all calls
 
 -- what is known of the lines of all calls, and of the last line behind them
-record AreGood (scale : Scale) (s : State) (lines : List LogLine) : Type 0 where
+pub record AreGood (scale : Scale) (s : State) (lines : List LogLine) : Type 0 where
   pub fits : LinesFit (told false (standing s)) lines
   pub again : LinesAreAgain (standing s) lines
   pub safe : LogIsSafe (standing s) lines
@@ -234,7 +234,7 @@ join scale s next lines rest good others =
       range = All-append (MayFollow scale) lines rest good.range others.range;
     }
 
-calls_good : (scale : Scale) (calls : List Call) (s : State) → HasRoomFor scale (length calls) s → MayAllBeCalled calls s → AreGood scale s (history calls s ++ End ∷ [])
+pub calls_good : (scale : Scale) (calls : List Call) (s : State) → HasRoomFor scale (length calls) s → MayAllBeCalled calls s → AreGood scale s (history calls s ++ End ∷ [])
 calls_good scale [] s room may = record { fits = (tt, tt); again = (tt, tt); safe = (tt, tt); range = one_line scale End (tt, tt) }
 calls_good scale (call ∷ calls) s room may =
     let a = room.steps in

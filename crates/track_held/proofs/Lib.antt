@@ -14,3 +14,5 @@ pub mod Grouped
 pub mod FoldChosen
 pub mod DenseSolids
 pub mod DenseStates
+pub mod DenseIds
+pub mod LogHeads
