@@ -30,15 +30,15 @@ use Rattle.run_laws.specs.Lines.{MayFollow, AreInRange}
 use Rattle.run_laws.proofs.StepLines.{mesh_in_range}
 use Rattle.track_engine.specs.Effects.{mesh_line}
 use Rattle.track_engine.specs.Kept.{LineHolds, LogIsSafe}
-use Rattle.track_engine.specs.State.{Group, State, standing}
+use Rattle.track_engine.specs.State.{Group, State, standing, unsaved}
 use Rattle.track_engine.proofs.Keeping.{saved_well}
 use Rattle.track_held.specs.Heads.{unmarked, solid_lines, begun}
 use Rattle.track_held.specs.Reading.{solid_vertices}
 use Rattle.log_fits.specs.Fitting.{LinesFit}
-use Rattle.log_fits.specs.Histories.{history}
+use Rattle.log_fits.specs.Histories.{history, state_after}
 use Rattle.track_held.proofs.DenseIds.{dense_meshes_are_read}
-use Rattle.log_fits.specs.Begun.{log_begun, LogsCanBeBegun, LogsAreOfTheirFiles}
-use Rattle.log_fits.proofs.Histories.{AreGood, calls_good}
+use Rattle.log_fits.specs.Begun.{log_begun, LogsCanBeBegun, CallersBeginLogs, LogsAreOfTheirFiles}
+use Rattle.log_fits.proofs.Histories.{AreGood, calls_good, calls_keep, room_at_first}
 use Rattle.log_fits.specs.Logs.{IsLogOf}
 use Rattle.log_fits.proofs.Lines.{told, begun_behind, fits_append}
 
@@ -189,6 +189,13 @@ logs_can_be_begun scale s calls can within =
       again = (tt, (tt, each_then LineIsAgain from head rest (solids_are_again from solids) (subst Again (sym leads) all.again)));
       safe = (tt, (saved_well from (unmarked_valid m kept.now.good), each_then LineHolds from head rest (solids_are_safe from solids) (subst Safe (sym leads) all.safe)));
     }
+
+pub callers_begin_logs : CallersBeginLogs
+callers_begin_logs scale m before calls within valid may_before none may few =
+    let first = room_at_first scale m (length before + length calls) within valid (omega (arith, few)) in
+    let room : HasRoomFor scale (length calls) (state_after before (unsaved m)) = calls_keep scale (length calls) before (unsaved m) first may_before in
+    logs_can_be_begun scale (state_after before (unsaved m)) calls
+    (record { kept = room.kept; limits = room.limits; closed = none; may = may; steps = room.steps; saved = omega (arith, few) }) room.within.mesh
 
 pub logs_are_of_their_files : LogsAreOfTheirFiles
 logs_are_of_their_files s calls can large dense =

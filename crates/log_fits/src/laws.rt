@@ -1,5 +1,5 @@
 //! Laws of the logs that runs write. Each is the contract of a function that does nothing.
-ghost use Rattle.log_fits.specs.Begun.{LogsCanBeBegun, LogsAreOfTheirFiles};
+ghost use Rattle.log_fits.specs.Begun.{LogsCanBeBegun, CallersBeginLogs, LogsAreOfTheirFiles};
 ghost use Rattle.log_fits.specs.Closures.{ByClosures};
 ghost use Rattle.log_fits.specs.Fitting.{LogsOfMeshesFit, LogsOfJobsFit};
 ghost use Rattle.log_fits.specs.Histories.{CallersHaveLogs, CallersAreTold};
@@ -68,6 +68,7 @@ pub fn callers_have_logs()
 /// are dense, that is the mesh which is read from its text.
 pub fn logs_can_be_begun()
     ensures logs { LogsCanBeBegun }
+    ensures callers { CallersBeginLogs }
     ensures files { LogsAreOfTheirFiles }
 {}
 

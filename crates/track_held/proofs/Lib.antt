@@ -15,4 +15,3 @@ pub mod FoldChosen
 pub mod DenseSolids
 pub mod DenseStates
 pub mod DenseIds
-pub mod LogHeads

@@ -102,12 +102,14 @@ impl<S: Surface> Held<S> {
         ensures left { OnErr result (self.new ≡ self.old) }
     {
         let mut log = no_lines(alloc, self.log.keeps());
-        if tell_head(alloc, &self.engine.mesh, &mut log).is_err() {
-            return Err(NoMemory);
+        match tell_head(alloc, &self.engine.mesh, &mut log) {
+            Ok(()) => {
+                self.log = log;
+                self.engine.run.saved = 1;
+                Ok(())
+            }
+            Err(_) => Err(NoMemory),
         }
-        self.log = log;
-        self.engine.run.saved = 1;
-        Ok(())
     }
 
     /// Tells that the mesh is saved, with the next number, and counts it; who asks for it keeps the mesh. It stops in the
@@ -122,12 +124,16 @@ impl<S: Surface> Held<S> {
         ensures tells { WritesEffect (effect_of Nothing directive.Save) self result }
     {
         let line = mesh_line(&self.engine.mesh, self.engine.run.saved);
-        if self.log.tell(alloc, &line).is_err() {
-            self.goes_on = false;
-            return Err(Stop::NoMemory);
+        match self.log.tell(alloc, &line) {
+            Ok(()) => {
+                self.engine.run.saved += 1;
+                Ok(None)
+            }
+            Err(_stop) => {
+                self.goes_on = false;
+                Err(Stop::NoMemory)
+            }
         }
-        self.engine.run.saved += 1;
-        Ok(None)
     }
 
     /// Tells the last line of a log that is done. It stops in the line for want of memory, and goes on no more. The state
@@ -141,10 +147,12 @@ impl<S: Surface> Held<S> {
         ensures tells { WritesEffect end_effect self result }
         ensures state { held_state self.new ≡ held_state self.old }
     {
-        if self.log.tell(alloc, &LogLine::End).is_err() {
-            self.goes_on = false;
-            return Err(Stop::NoMemory);
+        match self.log.tell(alloc, &LogLine::End) {
+            Ok(()) => Ok(None),
+            Err(_stop) => {
+                self.goes_on = false;
+                Err(Stop::NoMemory)
+            }
         }
-        Ok(None)
     }
 }
