@@ -37,17 +37,26 @@ fn mesh_line<S: Surface>(mesh: &S, k: u32) -> LogLine
     }
 }
 
-// A line for each vertex, that it is solid.
-fn tell_solids<O: Listener>(
+// The same, told.
+fn tell_mesh<S: Surface, O: Listener>(
     alloc: Global,
-    vertices: &[VertexId],
+    mesh: &S,
+    k: u32,
     outside: &mut O,
 ) -> Result<(), Stop>
+    ensures { Says (mesh_line k (S.mesh mesh.now) ∷ [])
+        (O.around outside.old) (O.around outside.new) result }
+{
+    outside.tell(alloc, &mesh_line(mesh, k))
+}
+
+// A line for each vertex, that it is solid.
+fn tell_solids<O: Listener>(alloc: Global, vertices: &[u32], outside: &mut O) -> Result<(), Stop>
     ensures { Says (solid_lines vertices.now)
         (O.around outside.old) (O.around outside.new) result }
 {
     for v in vertices {
-        outside.tell(alloc, &LogLine::Solid { v: *v })?;
+        outside.tell(alloc, &LogLine::Solid { v: VertexId(*v) })?;
     }
     Ok(())
 }
@@ -59,7 +68,7 @@ fn tell_head<S: Surface, O: Listener>(alloc: Global, mesh: &S, outside: &mut O) 
 {
     let solids = solid_vertices(alloc, mesh)?;
     outside.tell(alloc, &LogLine::First { version: VERSION })?;
-    outside.tell(alloc, &mesh_line(mesh, 0))?;
+    tell_mesh(alloc, mesh, 0, outside)?;
     tell_solids(alloc, solids.as_slice(), outside)
 }
 
@@ -123,8 +132,8 @@ impl<S: Surface> Held<S> {
         ensures why { IfErr result (λ stop. stop ≡ Stop.NoMemory) }
         ensures tells { WritesEffect (effect_of Nothing directive.Save) self result }
     {
-        let line = mesh_line(&self.engine.mesh, self.engine.run.saved);
-        match self.log.tell(alloc, &line) {
+        let k = self.engine.run.saved;
+        match tell_mesh(alloc, &self.engine.mesh, k, &mut self.log) {
             Ok(()) => {
                 self.engine.run.saved += 1;
                 Ok(None)
