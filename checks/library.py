@@ -5,7 +5,8 @@ The header and the examples have to compile as C99 and as C++17 with no warning,
 logs of `example.cpp` and `example.py` have to be the program's, byte for byte, and so have those of random jobs that
 `checks/library_steps.c` does through the library; it compares what calls report as numbers with the lines too. `checks/library_cases.c`
 compares codes, reasons and places of worked cases, also under valgrind where that is there; the files of that name in C++ and Python do so
-with the classes. The droplets of `examples/library` have to write their frames, and the log of its policy has to be measured.
+with the classes. The droplets of `examples/library` have to write their frames, the log of its policy has to be measured, and those of its
+chapters measured, proved, verified and replayed.
 `checks/random_callers.py` is run. `checks/starving.c` refuses each allocation in turn, where the C library is glibc. Without `cc` and
 `c++` nothing is compiled, and that is said.
 """
@@ -164,6 +165,25 @@ def by_policy(words, program, folder):
     yield f"policy.c keeps splits and takes others back: {kept}", 0 < kept < 18 and kept + told.count(b"close undone\n") == 18
 
 
+def by_chapters(words, program, folder):
+    """The example of a run in chapters: each log has to be taken beside its mesh, and its replay has to store the mesh at its end."""
+    run = os.path.join(folder, "chapters")
+    os.mkdir(run)
+    status, _, messages = ran([compiled(words, os.path.join(ROOT, "examples/library/chapters.cpp"), folder), run])
+    yield f"chapters.cpp: {messages}", status == 0 and messages.count(": mesh 1 has ") == 3
+    for k in range(3):
+        taken = []
+        for command, names in (("measure", []), ("prove", []), ("verify", ["proof"]), ("replay", ["again"])):
+            ended = subprocess.run([program, command, f"start{k}.obj", f"log{k}.txt", *names, "--large"], cwd=run, stdout=subprocess.PIPE, timeout=60)
+            taken.append(ended.returncode)
+            if command == "prove":
+                with open(os.path.join(run, "proof"), "wb") as out:
+                    out.write(ended.stdout)
+        meshes = [open(os.path.join(run, name), "rb").read() for name in (f"end{k}.obj", "again-000001.obj")]
+        yield f"chapter {k} is measured, proved, verified and replayed: {taken}", taken == [0] * 4
+        yield f"the replay of chapter {k} stores its last mesh", meshes[0] == meshes[1]
+
+
 def framed(words, folder):
     """Whether a droplet writes its frames."""
     last = os.path.join(folder, "frame_003.obj")
@@ -215,7 +235,7 @@ def main():
     with tempfile.TemporaryDirectory() as folder:
         checks = [check for words in c for check in in_c(words, folder)]
         checks += [check for words in cpp for check in in_cpp(words, program, folder)]
-        checks += [*by_python(program, folder), *by_policy(c[0], program, folder), *by_drivers(c[0], program, jobs, folder)]
+        checks += [*by_python(program, folder), *by_policy(c[0], program, folder), *by_chapters(cpp[0], program, folder), *by_drivers(c[0], program, jobs, folder)]
     failed = sum(not good for _, good in checks)
     for what, good in checks:
         if not good:

@@ -571,6 +571,49 @@ static void numbered_anew(void)
     topo_free(&t);
 }
 
+static void logs_begun(void)
+{
+    uint32_t number = 77;
+    is("no tracker", topo_begin_log(&t), TOPO_EMPTY);
+    is("nor a mesh in it", topo_save(&t, &number), TOPO_EMPTY);
+    is("nor an end", topo_end_log(&t), TOPO_EMPTY);
+    is("tells no number", number, 77);
+    is("a tetrahedron", topo_new(four, 4, sides, 4, &t, &fault), TOPO_DONE);
+    is("with a split", (uint32_t)done(TOPO_SPLIT, 1, 2, 0, 0, 5, 0, 20, 0, 0), 1);
+    is("has faces no more that it had", topo_begin_log(&t), TOPO_SPARSE);
+    is("its lines", (uint32_t)tells("split 1 2 5 20 0 0\n"), 1);
+    is("it is numbered anew", topo_renumber(&t), TOPO_DONE);
+    is("vertex 5 is solid", topo_solid(&t, 5, &fault), TOPO_DONE);
+    is("and vertex 2", topo_solid(&t, 2, &fault), TOPO_DONE);
+    is("vertex 4 is to move", topo_shift(&t, 4, 0, 0, 1, &fault), TOPO_DONE);
+    is("a mesh", topo_save(&t, &number), TOPO_DONE);
+    is("is the first", number, 0);
+    is("a group", topo_open(&t, &fault), TOPO_DONE);
+    is("has to be closed before", topo_begin_log(&t), TOPO_GROUPED);
+    is("and before an end", topo_end_log(&t), TOPO_GROUPED);
+    is("but not before a mesh", topo_save(&t, &number), TOPO_DONE);
+    is("which is the second", number, 1);
+    is("it is closed", topo_close(&t, &kept, &fault), TOPO_DONE);
+    is("a log", topo_begin_log(&t), TOPO_DONE);
+    is("its numbers", topo_counts(&t, &counted), TOPO_DONE);
+    is("are four lines", (uint32_t)counted.lines, 4);
+    is("a step", topo_step(&t, &way, &fault), TOPO_DONE);
+    is("a mesh", topo_save(&t, &number), TOPO_DONE);
+    is("is mesh 1", number, 1);
+    is("another", topo_save(&t, &number), TOPO_DONE);
+    is("is mesh 2", number, 2);
+    is("its end", topo_end_log(&t), TOPO_DONE);
+    is("it is a whole log", (uint32_t)tells("topo log 2\nmesh 0 5 6\nsolid 2\nsolid 5\nstep 1\nmove 4 0 0 1\nmoved whole\nmesh 1 5 6\nmesh 2 5 6\nend\n"), 1);
+    is("another log", topo_begin_log(&t), TOPO_DONE);
+    is("of which no line", topo_keep(&t, 0), TOPO_DONE);
+    is("is kept", topo_begin_log(&t), TOPO_DONE);
+    is("as it goes on", topo_save(&t, &number), TOPO_DONE);
+    is("or ends", topo_end_log(&t), TOPO_DONE);
+    is("has its numbers all the same", number, 1);
+    is("and no text", (uint32_t)tells(""), 1);
+    topo_free(&t);
+}
+
 static void stars(void)
 {
     struct topo_face row[4];
@@ -742,6 +785,7 @@ int main(void)
     edits_at_the_limit();
     groups_taken_back();
     numbered_anew();
+    logs_begun();
     stars();
     components();
     joined_and_large();

@@ -140,6 +140,15 @@ void edits()
     is("in a group nothing is numbered anew", ends([&] { surface.renumber(); }, TOPO_GROUPED));
     surface.undo(), surface.collapse(2.1), surface.renumber();
     is("ids are those of the places then", surface.vertices().back().id == surface.vertices().size() && surface.counts().lines == 0);
+    surface.begin_log();
+    is("a mesh in a log", surface.save() == 1);
+    surface.end_log();
+    const std::string numbers = std::to_string(surface.counts().vertices) + " " + std::to_string(surface.counts().faces) + "\n";
+    is("which is whole", surface.log() == "topo log 2\nmesh 0 " + numbers + "mesh 1 " + numbers + "end\n");
+    surface.split(1);
+    is("ids that are not dense", ends([&] { surface.begin_log(); }, TOPO_SPARSE));
+    surface.open();
+    is("a log does not end in a group", ends([&] { surface.end_log(); }, TOPO_GROUPED));
 }
 
 void tables()

@@ -156,6 +156,14 @@ def edits():
         count = surface.counts()
         holds("numbered anew", [*surface.vertices()] == [*range(1, count["vertices"] + 1)] and [*surface.faces()] == [*range(1, count["faces"] + 1)])
         holds("with no line", surface.log() == "" and count["next_vertex"] == count["vertices"] + 1 and count["next_face"] == count["faces"] + 1)
+        surface.begin_log()
+        holds("a mesh in a log", surface.save() == 1)
+        surface.end_log()
+        numbers = f"{count['vertices']} {count['faces']}"
+        holds("which is whole", surface.log() == f"topo log 2\nmesh 0 {numbers}\nmesh 1 {numbers}\nend\n")
+        surface.split(1)
+        says("ids that are not dense", topo.TopoError, "topo_begin_log|topo_renumber goes before", surface.begin_log)
+        surface.forget()
         holds("its log", log.startswith("split 1 2 5 20 0 0\nno pinch 4 onefan\n") and log.endswith("close undone\nno pinch 4 onefan\n") and surface.log() == "")
 
 

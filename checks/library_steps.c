@@ -53,6 +53,14 @@ static char *told(void)
     return text;
 }
 
+/* prints what was told */
+static void put_told(void)
+{
+    char *text = told();
+    fputs(text, stdout);
+    free(text);
+}
+
 /* compares the events with the lines */
 static void check_events(const char *text, const struct topo_event *events, size_t count, const char *line)
 {
@@ -176,9 +184,10 @@ int main(int count, char **words)
         f += sscanf(line, "f %u %u %u", &faces[f].a, &faces[f].b, &faces[f].c) == 3;
     }
     code = topo_new(points, v, faces, f, &t, &fault);
-    puts("topo log 2");
-    if (code == TOPO_DONE)
-        printf("mesh 0 %u %u\n", (unsigned)v, (unsigned)f);
+    if (code != TOPO_DONE)
+        puts("topo log 2");
+    else if ((code = topo_begin_log(&t)) == TOPO_DONE)
+        put_told();
     while (code == TOPO_DONE && fgets(line, sizeof line, steps)) {
         ++number;
         code = directive(line);
@@ -187,8 +196,8 @@ int main(int count, char **words)
     }
     if (code == TOPO_REFUSED)
         show_fault(number);
-    else if (code == TOPO_DONE)
-        puts("end");
+    else if (code == TOPO_DONE && (code = topo_end_log(&t)) == TOPO_DONE)
+        put_told();
     else
         fprintf(stderr, "code %u at line %u\n", (unsigned)code, number);
     topo_free(&t);

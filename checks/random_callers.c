@@ -450,14 +450,17 @@ static void components(void)
     }
 }
 
-/* stores the tracker's own mesh, and puts the line of that */
+/* stores the tracker's own mesh, and has its line told: the first begins a log */
 static void save(const char *folder)
 {
     char name[1024];
     FILE *out;
     size_t i;
+    uint32_t number = 0;
     look();
-    printf("mesh %u %u %u\n", (unsigned)meshes, (unsigned)vertex_count, (unsigned)face_count);
+    must(meshes ? topo_save(&t, &number) : topo_begin_log(&t), 0, "topo_save");
+    check(number == meshes, "a mesh has another number");
+    told();
     snprintf(name, sizeof name, "%s/own-%06u.obj", folder, (unsigned)meshes++);
     if (!(out = fopen(name, "w")))
         exit(2);
@@ -517,12 +520,16 @@ int main(int count, char **words)
     if (begin(mesh) != TOPO_DONE)
         return 3;
     rolled = strtoull(words[2], 0, 10);
-    puts("topo log 2");
     save(words[3]);
     for (calls = 10 + dice(50); calls; --calls)
         go(words[3]);
     save(words[3]);
-    puts("end");
+    if (groups) {
+        check(topo_end_log(&t) == TOPO_GROUPED, "a log ends in an open group");
+        puts("end");
+    } else
+        must(topo_end_log(&t), 0, "topo_end_log");
+    told();
     snprintf(name, sizeof name, "%s/tally.txt", words[3]);
     if (!(tally = fopen(name, "w")))
         return 2;

@@ -64,6 +64,20 @@ static void next(struct topo *t, int what)
     topo_counts(t, &before);
 }
 
+/* a log is begun, a mesh is saved in it, and it is ended */
+static uint32_t in_a_log(struct topo *t)
+{
+    uint32_t number = 77, code;
+    next(t, STAYS);
+    if ((code = topo_begin_log(t)) != TOPO_DONE)
+        return code;
+    next(t, STOPS);
+    if ((code = topo_save(t, &number)) != TOPO_DONE)
+        return number == 77 ? code : 99;
+    next(t, STOPS);
+    return topo_end_log(t);
+}
+
 /* edits by ids, in a group that is then taken back, between looks at stars: what is told where it is not done is told too */
 static uint32_t by_ids(struct topo *t, struct topo_fault *fault)
 {
@@ -97,7 +111,9 @@ static uint32_t by_ids(struct topo *t, struct topo_fault *fault)
     if (became != TOPO_TAKEN_BACK)
         return 99;
     next(t, STAYS);
-    return topo_renumber(t);
+    if ((code = topo_renumber(t)) != TOPO_DONE)
+        return code;
+    return in_a_log(t);
 }
 
 /* makes a tracker, another in its place, and works with that twice over, up to the first call that is not done */

@@ -35,6 +35,8 @@ public:
     void solid(std::uint32_t vertex) { must(topo_solid(&t, vertex, &fault), "solid", fault); }
     void open() { must(topo_open(&t, &fault), "open", fault); }
     void close() { must(topo_close(&t, &kept, &fault), "close", fault); }
+    void begin_log() { must(topo_begin_log(&t), "begin_log", {}); }
+    void end_log() { must(topo_end_log(&t), "end_log", {}); }
 
     // The code of a call that may be refused.
     std::uint32_t try_shift(std::uint32_t vertex, int x, int y, int z) { return topo_shift(&t, vertex, x, y, z, &fault); }
@@ -90,7 +92,7 @@ int main()
     std::fprintf(stderr, "three faces: code %u, why %u, from %u to %u\n", code, fault.why, fault.a, fault.b);
 
     Tracker tracker(points, faces);
-    std::printf("topo log 2\nmesh 0 %zu %zu\n", points.size(), faces.size());
+    tracker.begin_log();
     for (std::uint32_t v = 1; v <= 4; ++v)
         tracker.shift(v, 1, 2, 3);
     tracker.step();
@@ -103,8 +105,8 @@ int main()
     tracker.shift(1, -3, -3, 0);
     tracker.step();
     tracker.close();
+    tracker.end_log();
     std::fputs(tracker.log().c_str(), stdout);
-    std::fputs("end\n", stdout);
 
     const std::uint32_t refused = tracker.try_shift(4, 1, 0, 0);
     std::fprintf(stderr, "a solid vertex: code %u, why %u, vertex %u\n", refused, tracker.fault.why, tracker.fault.a);

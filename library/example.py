@@ -27,7 +27,7 @@ def main():
     high, high_faces = box(100, 1300, 90, 800, 9)
     points, faces = low + high, low_faces + high_faces
     with Tracker(points, faces, unit=1, library=library) as tracker:
-        print(f"topo log 2\nmesh 0 {len(points)} {len(faces)}")
+        tracker.begin_log()
         for k in range(6):
             tracker.shift({v: (0, -100, 0) for v in range(9, 17)})
             way, times, hits = tracker.step()
@@ -37,8 +37,8 @@ def main():
             print(text, end="")
         done, refused = tracker.split(600)
         print(f"{done} splits, {refused} refused", file=sys.stderr)
+        tracker.end_log()
         print(tracker.log(), end="")
-        print("end")
         print(f"{len(tracker.vertices())} vertices, {len(tracker.faces())} faces", file=sys.stderr)
         try:
             tracker.shift({99999: (1, 0, 0)})

@@ -28,7 +28,7 @@ except ImportError:
     numpy = None
 
 u32, i32, size_t, ref = ctypes.c_uint32, ctypes.c_int32, ctypes.c_size_t, ctypes.byref
-DONE, NO_MEMORY, REFUSED, RANGE, EMPTY, STOPPED, SPENT, GROUPED = range(8)
+DONE, NO_MEMORY, REFUSED, RANGE, EMPTY, STOPPED, SPENT, GROUPED, SPARSE = range(9)
 WAYS = ("whole", "impulse", "zones", "halved", "zero")
 GROUPS = ("none", "kept", "taken back")
 EVENTS = ("", "moved", "split", "flipped", "collapsed", "zipped", "pinched", "solid", "opened", "kept", "undone")
@@ -43,8 +43,9 @@ CODES = {
     RANGE: "an argument is beyond its limit",
     EMPTY: "there is no tracker, or it was freed",
     STOPPED: "an earlier directive had no memory: the tracker can be read and freed, no more",
-    SPENT: "2^32 - 1 steps were taken",
+    SPENT: "2^32 - 1 steps were taken, or as many meshes saved",
     GROUPED: "a group is open",
+    SPARSE: "an id that was given is none any more: topo_renumber goes before",
 }
 REASONS = {
     1: "no live vertex has the id {a}",
@@ -93,7 +94,7 @@ Cells = struct("Cells", x_y_z=i32, side_nx_ny_nz=u32)
 
 CALLS = ("topo_new topo_new_numbered topo_free topo_shift_each topo_shift_all topo_set topo_step topo_split topo_collapse topo_flip topo_zip topo_pinch topo_fit topo_fit_by "
          "topo_edit_each topo_close_fold topo_solid topo_open topo_close topo_undo topo_counts topo_points topo_faces topo_star topo_beside topo_components topo_solids "
-         "topo_events topo_log topo_forget topo_renumber topo_keep topo_version topo_calls").split()
+         "topo_events topo_log topo_forget topo_renumber topo_begin_log topo_save topo_end_log topo_keep topo_version topo_calls").split()
 
 Component = collections.namedtuple("Component", "vertex faces euler volume")
 Answer = collections.namedtuple("Answer", "why a b c at")
@@ -264,7 +265,7 @@ class Tracker:
 
     def __init__(self, points, faces=(), unit=1.0, origin=(0.0, 0.0, 0.0), library=None):
         self.library, self.thread = load(library or os.environ.get("TOPO_LIBRARY") or library_here()), threading.get_ident()
-        self.handle, self.fault, self.way, self.edits, self.kept = Handle(), Fault(), Way(), Edits(), u32()
+        self.handle, self.fault, self.way, self.edits, self.kept, self.number = Handle(), Fault(), Way(), Edits(), u32(), u32()
         self.unit, self.origin, self.rounded = real(unit, "the unit"), tuple(real(c, "the origin") for c in row_of(origin, 3, "the origin")), 0.0
         if not self.unit > 0:
             raise ValueError(f"the unit is {unit}, and not above zero")
@@ -491,6 +492,20 @@ class Tracker:
     def renumber(self):
         """Numbers the live vertices and faces anew, from 1, in their order; the log is forgotten. Refused where a group is open."""
         self.call("topo_renumber")
+
+    def begin_log(self):
+        """Begins a log at the surface as it is: what was told is forgotten, and the first lines of a log file are told. Refused where a group is open, and where
+        an id that was given is none any more: then `renumber` goes before."""
+        self.call("topo_begin_log")
+
+    def save(self):
+        """Tells that the surface is saved, and answers by which number."""
+        self.call("topo_save", ref(self.number))
+        return self.number.value
+
+    def end_log(self):
+        """Tells the last line of a log. Refused where a group is open."""
+        self.call("topo_end_log")
 
     def keep(self, lines):
         """Keeps the lines that are told from here on, or none: then there is no log, and there are no events."""

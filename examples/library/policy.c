@@ -66,7 +66,9 @@ static uint32_t run(void)
     char text[4096];
     size_t size, f;
     int kept = 0, splits = 0, looks = 0;
-    uint32_t code = topo_points(&t, rows, 64, &row_count);
+    uint32_t code = topo_begin_log(&t);
+    if (code == TOPO_DONE)
+        code = topo_points(&t, rows, 64, &row_count);
     if (code == TOPO_DONE)
         code = topo_faces(&t, faces, 12, &size);
     for (f = 0; f < 36 && code == TOPO_DONE; ++f) {
@@ -78,8 +80,10 @@ static uint32_t run(void)
             splits += kept;
         }
     }
+    if (code == TOPO_DONE)
+        code = topo_end_log(&t);
     if (code == TOPO_DONE && (code = topo_log(&t, text, sizeof text, &size)) == TOPO_DONE)
-        printf("topo log 2\nmesh 0 8 12\n%.*send\n", (int)size, text);
+        printf("%.*s", (int)size, text);
     fprintf(stderr, "%d edges were split, and %d splits kept\n", looks, splits);
     return code;
 }

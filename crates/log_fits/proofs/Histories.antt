@@ -215,7 +215,7 @@ call_good scale (Sets set) s room may = record {
 -- ---- all calls
 
 -- what is known of the lines of all calls, and of the last line behind them
-record AreGood (scale : Scale) (s : State) (lines : List LogLine) : Type 0 where
+pub record AreGood (scale : Scale) (s : State) (lines : List LogLine) : Type 0 where
   pub fits : LinesFit (told false (standing s)) lines
   pub again : LinesAreAgain (standing s) lines
   pub safe : LogIsSafe (standing s) lines
@@ -234,7 +234,7 @@ join scale s next lines rest good others =
       range = All-append (MayFollow scale) lines rest good.range others.range;
     }
 
-calls_good : (scale : Scale) (calls : List Call) (s : State) → HasRoomFor scale (length calls) s → MayAllBeCalled calls s → AreGood scale s (history calls s ++ End ∷ [])
+pub calls_good : (scale : Scale) (calls : List Call) (s : State) → HasRoomFor scale (length calls) s → MayAllBeCalled calls s → AreGood scale s (history calls s ++ End ∷ [])
 calls_good scale [] s room may = record { fits = (tt, tt); again = (tt, tt); safe = (tt, tt); range = one_line scale End (tt, tt) }
 calls_good scale (call ∷ calls) s room may =
     let a = room.steps in
@@ -250,9 +250,25 @@ calls_good scale (call ∷ calls) s room may =
     subst (AreGood scale s) (sym (append_assoc (lines_told effect) (history calls next) (End ∷ [])))
     (join scale s next (lines_told effect) (history calls next ++ End ∷ []) good (calls_good scale calls next left may.1))
 
+-- they leave room for as many more as there was
+pub calls_keep : (scale : Scale) (more : ℕ) (calls : List Call) (s : State) → HasRoomFor scale (length calls + more) s → MayAllBeCalled calls s → HasRoomFor scale more (state_after calls s)
+calls_keep scale more [] s room may = room
+calls_keep scale more (call ∷ calls) s room may =
+    let a = room.steps in
+    let b = room.saved in
+    let here : HasRoomFor scale 1 s = record { kept = room.kept; within = room.within; limits = room.limits; steps = omega (arith, a); saved = omega (arith, b) } in
+    let effect = effect_of_call call s in
+    let next = state_left effect s in
+    let good = call_good scale call s here may.0 in
+    let c = good.steps in
+    let d = good.saved in
+    let within : HaveLimits (IsWithin scale) (standing next) = subst (HaveLimits (IsWithin scale)) good.leads (limits-after (IsWithin scale) (standing s) (lines_told effect) room.within) in
+    let left : HasRoomFor scale (length calls + more) next = record { kept = good.kept; within = within; limits = good.limits; steps = omega (arith, a, c); saved = omega (arith, b, d) } in
+    calls_keep scale more calls next left may.1
+
 -- ---- the log
 
-room_at_first : (scale : Scale) (m : Mesh) (count : ℕ) → IsWithin scale m.limits → IsValidSurface m → count ≤ COUNT_MAX → HasRoomFor scale count (unsaved m)
+pub room_at_first : (scale : Scale) (m : Mesh) (count : ℕ) → IsWithin scale m.limits → IsValidSurface m → count ≤ COUNT_MAX → HasRoomFor scale count (unsaved m)
 room_at_first scale m count within good few =
     let kept = kept_start m good in
     record { kept = record { now = kept.now; groups = kept.groups }; within = record { mesh = within; groups = tt }; limits = limits_start m; steps = omega (arith, few); saved = omega (arith, few) }

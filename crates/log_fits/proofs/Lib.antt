@@ -15,3 +15,4 @@ mod SameFiles
 mod Logs
 mod Histories
 mod Taken
+mod Begun

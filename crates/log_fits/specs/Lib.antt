@@ -7,3 +7,4 @@ pub mod Logs
 pub mod Histories
 pub mod Taken
 pub mod Closures
+pub mod Begun

@@ -1,4 +1,5 @@
 //! Laws of the logs that runs write. Each is the contract of a function that does nothing.
+ghost use Rattle.log_fits.specs.Begun.{LogsCanBeBegun, CallersBeginLogs, LogsAreOfTheirFiles};
 ghost use Rattle.log_fits.specs.Closures.{ByClosures};
 ghost use Rattle.log_fits.specs.Fitting.{LogsOfMeshesFit, LogsOfJobsFit};
 ghost use Rattle.log_fits.specs.Histories.{CallersHaveLogs, CallersAreTold};
@@ -60,6 +61,15 @@ pub fn logs_of_runs_are_replayed<F: Fn(u8, Point) -> Shift, G: Fn(Point) -> Band
 pub fn callers_have_logs()
     ensures logs { CallersHaveLogs }
     ensures told { CallersAreTold }
+{}
+
+/// A caller's log may be begun at any time, at the mesh as it is, where the tracker goes on and no group is open: behind the first lines
+/// that are told then, and before the last, the lines of the calls from there on are a log of that mesh with no vertex solid. Where its ids
+/// are dense, that is the mesh which is read from its text.
+pub fn logs_can_be_begun()
+    ensures logs { LogsCanBeBegun }
+    ensures callers { CallersBeginLogs }
+    ensures files { LogsAreOfTheirFiles }
 {}
 
 /// So is the log of a run whose files were read without a fault and whose mesh is clear.

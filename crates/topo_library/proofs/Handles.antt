@@ -13,6 +13,7 @@ use Rattle.topo_library.specs.declared.results.TopoEdits.{TopoEdits}
 use Rattle.topo_library.specs.declared.tracker.Tracker.{Tracker}
 use Rattle.step_choose.specs.declared.Settings.{Settings}
 use Rattle.topo_library.specs.Codes.{tracker_state, HasWritten, HolderHasWritten, HasEdited, HolderHasEdited, HasDone, HolderHasDone, HasTold, HolderHasTold, HasSet, HolderHasSet, HasRenumbered, HolderHasRenumbered, HasFitted, HolderHasFitted, HasForgotten, HolderHasForgotten, HasKept, HolderHasKeptBy, HasShiftedEach, HolderHasShiftedEach, HasTakenLog, HolderHasTakenLog}
+use Rattle.topo_library.specs.Logged.{HasBegunLog, HolderHasBegunLog, HasEndedLog, HolderHasEndedLog}
 
 module _ (old new : Option Tracker) (s t : Tracker) (held : old ≡ Some s) (holds : new ≡ Some t) where
   pub answers : (what : Directive) (before after : TopoFault) (code : ℕ) → HasDone what s t before after code → HolderHasDone what old new before after code
@@ -29,6 +30,12 @@ module _ (old new : Option Tracker) (s t : Tracker) (held : old ≡ Some s) (hol
 
   pub renumbers : (code : ℕ) → HasRenumbered s t code → HolderHasRenumbered old new code
   renumbers code h = let P : Option Tracker → Type 0 = λ o. HolderHasRenumbered o new code in subst P (sym held) (t, holds, h)
+
+  pub begins : (code : ℕ) → HasBegunLog s t code → HolderHasBegunLog old new code
+  begins code h = let P : Option Tracker → Type 0 = λ o. HolderHasBegunLog o new code in subst P (sym held) (t, holds, h)
+
+  pub ends : (code : ℕ) → HasEndedLog s t code → HolderHasEndedLog old new code
+  ends code h = let P : Option Tracker → Type 0 = λ o. HolderHasEndedLog o new code in subst P (sym held) (t, holds, h)
 
   pub fits : (may_size : Point → Band → Type 0) (before after : TopoEdits) (code : ℕ) → HasFitted may_size s t before after code → HolderHasFitted may_size old new before after code
   fits may_size before after code h = let P : Option Tracker → Type 0 = λ o. HolderHasFitted may_size o new before after code in subst P (sym held) (t, holds, h)

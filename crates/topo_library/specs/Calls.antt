@@ -30,6 +30,7 @@ use Rattle.topo_library.specs.Codes.{HolderHasShiftedEach, HolderHasMade, Holder
 use Rattle.topo_library.specs.Codes.{HolderHasForgotten, HolderHasKept, HolderHasCounted}
 use Rattle.topo_library.specs.Faults.{table_place}
 use Rattle.topo_library.specs.Folded.{HolderHasClosedFold}
+use Rattle.topo_library.specs.Logged.{HolderHasBegunLog, HolderHasEndedLog}
 use Rattle.topo_library.specs.Tellings.{edits_told, settings_at}
 use Rattle.topo_library.specs.declared.alone.TopoFive.{TopoFive}
 use Rattle.topo_library.specs.declared.fault.TopoFault.{TopoFault}
@@ -149,6 +150,14 @@ HandleHasSet depth passes zones halvings topo code =
 -- the code of a call that numbers vertices and faces anew
 abbrev pub HandleHasRenumbered : InOut Topo → ℕ → Type 0
 HandleHasRenumbered topo code = HolderHasRenumbered (held_before topo) (held_after topo) code
+
+-- the code of a call that begins a log
+abbrev pub HandleHasBegunLog : InOut Topo → ℕ → Type 0
+HandleHasBegunLog topo code = HolderHasBegunLog (held_before topo) (held_after topo) code
+
+-- the code of a call that ends one
+abbrev pub HandleHasEndedLog : InOut Topo → ℕ → Type 0
+HandleHasEndedLog topo code = HolderHasEndedLog (held_before topo) (held_after topo) code
 
 -- ---- making
 

@@ -6,3 +6,4 @@ pub mod Owned
 pub mod Tellings
 pub mod Components
 pub mod Folded
+pub mod Logged

@@ -14,7 +14,8 @@ ghost use Rattle.step_text.specs.Ranges.{IsFrom};
 ghost use Rattle.step_text.specs.declared.Directive.TheVariants as directive;
 ghost use Rattle.edit_base.specs.declared.PassKind.TheVariants as pass;
 ghost use Rattle.track_engine.specs.Told.{step_told};
-ghost use Rattle.track_engine.specs.Effects.{undo_effect};
+ghost use Rattle.track_engine.specs.Answers.{Nothing};
+ghost use Rattle.track_engine.specs.Effects.{effect_of, undo_effect};
 ghost use Rattle.track_held.specs.Events.{log_events};
 ghost use Rattle.track_held.specs.Reading.{named_points, named_faces, solid_vertices, star_of, beside_edge};
 ghost use Rattle.track_held.specs.Editing.{ends};
@@ -23,7 +24,7 @@ ghost use Rattle.topo_library.specs.Alone.{places};
 ghost use Rattle.topo_library.specs.Components.{told_components};
 ghost use Rattle.topo_library.specs.Codes.{tracker_state, lines_told, AreSettings};
 ghost use Rattle.topo_library.specs.Calls.{HoldsTheSame, HandleIsBeyond, HandleHasDone, HandleHasTold, HandleHasPassed, HandleHasToldPass, HandleHasShifted, HandleHasShiftedAll, HandleHasShiftedEach};
-ghost use Rattle.topo_library.specs.Calls.{HandleHasWritten, HandleHasEdited, HandleHasClosedFold, HandleHasFittedTo, HandleHasFittedBy, HandleRefusesTable, HandleHasSet, HandleHasRenumbered};
+ghost use Rattle.topo_library.specs.Calls.{HandleHasWritten, HandleHasEdited, HandleHasClosedFold, HandleHasFittedTo, HandleHasFittedBy, HandleRefusesTable, HandleHasSet, HandleHasRenumbered, HandleHasBegunLog, HandleHasEndedLog};
 ghost use Rattle.topo_library.specs.Calls.{HasMade, HasMadeNumbered, HandleHasPut, HandleHasTakenLog, HandleHasForgotten, HandleHasKept, HandleHasCounted, HasTestedMeeting, HasTestedMotion};
 ghost use Rattle.topo_library.specs.Tellings.{way_told, closing_of, undone_of, band_of};
 
@@ -35,6 +36,7 @@ mod edit_calls;
 mod fault;
 mod fold_closure;
 mod handle;
+mod log_calls;
 mod loose;
 mod new_tracker;
 mod numbered_tracker;
@@ -56,6 +58,7 @@ use fault::{TopoFault, table_place};
 use fold_closure::close_fold;
 use grid_base::{ID_MAX, LENGTH_MAX};
 use handle::Topo;
+use log_calls::{begin_log, end_log, save};
 use log_text::VERSION;
 use new_tracker::make;
 use numbered_tracker::{NumberedRows, make_numbered};
@@ -543,6 +546,32 @@ pub extern "C" fn topo_renumber(alloc: Global, topo: &mut Topo) -> u32
     ensures { HandleHasRenumbered topo result }
 {
     renumber(alloc, topo)
+}
+
+/// Begins a log at the mesh as it is: what was told is forgotten, and the first lines are told: that of the version, that of the mesh, which gets
+/// the number 0, and one for each solid vertex. Refused where a group is open, and where an id that a vertex or a face has got is none any more.
+#[unsafe(no_mangle)]
+pub extern "C" fn topo_begin_log(alloc: Global, topo: &mut Topo) -> u32
+    ensures { HandleHasBegunLog topo result }
+{
+    begin_log(alloc, topo)
+}
+
+/// Tells the line of a mesh that is saved, by the next number, and tells that number. Who asks for it keeps the mesh.
+#[unsafe(no_mangle)]
+pub extern "C" fn topo_save(alloc: Global, topo: &mut Topo, number: &mut u32) -> u32
+    ensures does { HandleHasWritten (effect_of Nothing directive.Save) topo result }
+    ensures tells { HandleHasTold (λ t. (tracker_state t).saved) topo number result }
+{
+    save(alloc, topo, number)
+}
+
+/// Ends a log: its last line is told. Refused where a group is open.
+#[unsafe(no_mangle)]
+pub extern "C" fn topo_end_log(alloc: Global, topo: &mut Topo) -> u32
+    ensures { HandleHasEndedLog topo result }
+{
+    end_log(alloc, topo)
 }
 
 /// Keeps the lines that are told from here on, at 1, or none of them, at 0, and then forgets those that were told. A tracker that is made

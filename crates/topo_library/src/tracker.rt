@@ -4,7 +4,7 @@ ghost use Rattle.mesh_sizing.specs.Sizes.{IsBand};
 ghost use Rattle.step_choose.specs.Settings.{AreWithinLimits};
 ghost use Rattle.step_text.specs.Ranges.{IsInRange};
 
-use crate::codes::{DONE, GROUPED, NO_MEMORY, REFUSED, SPENT, STOPPED};
+use crate::codes::{DONE, GROUPED, NO_MEMORY, REFUSED, SPARSE, SPENT, STOPPED};
 use crate::fault::{TopoFault, use_place};
 use crate::results::{TopoEdits, TopoWay, closing_number, edits_told, undone_number, way_told};
 use edit_base::{Asked, PassKind};
@@ -23,13 +23,15 @@ pub struct Tracker {
 }
 
 impl Tracker {
-    ghost use Rattle.step_text.specs.declared.Directive.TheVariants.{Step, Pass, Close};
+    ghost use Rattle.step_text.specs.declared.Directive.TheVariants.{Step, Pass, Close, Save};
     ghost use Rattle.track_engine.specs.Told.{step_told, pass_told};
     ghost use Rattle.track_held.specs.Asking.{AsksNothing};
     ghost use Rattle.track_held.specs.Fitting.{always};
     ghost use Rattle.track_held.specs.Tables.{by_cells};
-    ghost use Rattle.track_engine.specs.Effects.{edits_effect, edited_answers, undo_effect};
+    ghost use Rattle.track_engine.specs.Answers.{Nothing};
+    ghost use Rattle.track_engine.specs.Effects.{effect_of, edits_effect, edited_answers, undo_effect};
     ghost use Rattle.topo_library.specs.Codes.{tracker_state, HasDone, HasTold, HasSet, HasFitted, HasWritten, HasRenumbered};
+    ghost use Rattle.topo_library.specs.Logged.{HasBegunLog, HasEndedLog};
     ghost use Rattle.topo_library.specs.Tellings.{way_told, edits_told, closing_of, undone_of};
 
     /// Does a directive, and answers how that went.
@@ -232,6 +234,66 @@ impl Tracker {
         }
         match self.held.renumber(alloc) {
             Ok(()) => DONE,
+            Err(_) => NO_MEMORY,
+        }
+    }
+
+    /// Begins a log, and answers how that went. Nothing is changed where it is not begun.
+    pub(crate) fn begin_log(&mut self, alloc: Global) -> u32
+        ensures { HasBegunLog self.old self.new result }
+    {
+        let open = self.held.has_open_group();
+        if !self.held.goes_on() {
+            return STOPPED;
+        }
+        if open {
+            return GROUPED;
+        }
+        if !self.held.has_dense_ids() {
+            return SPARSE;
+        }
+        match self.held.begin_log(alloc) {
+            Ok(()) => DONE,
+            Err(_) => NO_MEMORY,
+        }
+    }
+
+    /// Saves the mesh, as far as its line goes, and answers how that went.
+    pub(crate) fn save(&mut self, alloc: Global, number: &mut u32) -> u32
+        ensures writes { HasWritten (effect_of Nothing Save (tracker_state self.old))
+            self.old self.new result }
+        ensures tells { HasTold (λ t. (tracker_state t).saved) self.old
+            number.old number.new result }
+    {
+        if !self.held.goes_on() {
+            return STOPPED;
+        }
+        if !self.held.has_room() {
+            return SPENT;
+        }
+        let saved = self.held.saved();
+        match self.held.save(alloc) {
+            Ok(_) => {
+                *number = saved;
+                DONE
+            }
+            Err(_) => NO_MEMORY,
+        }
+    }
+
+    /// Ends a log, and answers how that went.
+    pub(crate) fn end_log(&mut self, alloc: Global) -> u32
+        ensures { HasEndedLog self.old self.new result }
+    {
+        let grouped = self.held.has_open_group();
+        if !self.held.goes_on() {
+            return STOPPED;
+        }
+        if grouped {
+            return GROUPED;
+        }
+        match self.held.end_log(alloc) {
+            Ok(_) => DONE,
             Err(_) => NO_MEMORY,
         }
     }

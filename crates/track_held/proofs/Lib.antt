@@ -14,3 +14,4 @@ pub mod Grouped
 pub mod FoldChosen
 pub mod DenseSolids
 pub mod DenseStates
+pub mod DenseIds

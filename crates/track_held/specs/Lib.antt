@@ -16,3 +16,4 @@ pub mod NumberedMade
 pub mod Editing
 pub mod Folds
 pub mod Folding
+pub mod Heads

@@ -14,6 +14,7 @@ mod given;
 mod given_edits;
 mod group_end;
 mod held;
+mod log_head;
 mod new_tracker;
 mod numbered_tracker;
 mod queries;
@@ -33,6 +34,7 @@ pub use given_edits::{
 };
 pub use group_end::Closing;
 pub use held::Held;
+pub use log_head::dense_ids_are_those_of_a_file;
 pub use new_tracker::{MakeFault, MakeRefusal, track};
 pub use numbered_tracker::{NumberedFault, NumberedRefusal, track_numbered};
 pub use queries::{

@@ -1,0 +1,60 @@
+-- A log that a caller begins at the mesh as it is, and ends.
+use Rattle.std.specs.Prelude.{◌≡◌, ℕ, ◌+◌, ◌==◌, ◌&&◌, Bool, true, List, [], ◌∷◌, map}
+use Rattle.std.specs.FinMap as finite
+use Rattle.grid_base.specs.declared.Point.{Point}
+use Rattle.mesh_base.specs.declared.limits.Scale.{Scale}
+use Rattle.mesh_base.specs.declared.limits.Scale.TheVariants.{Large}
+use Rattle.mesh_base.specs.Given.{Faces, mesh_under}
+use Rattle.mesh_base.specs.Limits.{limits_of}
+use Rattle.mesh_base.specs.Mesh.{Mesh, IsSound}
+use Rattle.mesh_rows.specs.Making.{with_solids}
+use Rattle.obj_text.specs.Laws.{renumbered}
+use Rattle.log_text.specs.declared.TheConstants.{VERSION}
+use Rattle.log_text.specs.declared.LogLine.{LogLine}
+use Rattle.log_text.specs.declared.LogLine.TheVariants.{First, Solid, End}
+use Rattle.track_engine.specs.State.{State}
+use Rattle.track_engine.specs.Effects.{Effect, Proceeds, mesh_line}
+use Rattle.track_held.specs.Reading.{solid_vertices}
+
+-- whether as many vertices and faces live as have ever got an id, so that their ids run from 1 on
+-- with none left out, as those of a mesh that is read from a file
+abbrev pub has_dense_ids : Mesh → Bool
+has_dense_ids m =
+    (m.next_vertex == finite.len m.points + 1) && (m.next_face == finite.len m.faces + 1)
+
+-- so they are in each mesh that is made of points and faces, whichever vertices are solid
+abbrev pub MeshesAreMadeDense : Type 0
+MeshesAreMadeDense =
+    (scale : Scale) (points : List Point) (faces : Faces) (solids : List ℕ) →
+    has_dense_ids (with_solids (mesh_under scale points faces) solids) ≡ true
+
+-- the mesh with no vertex solid, as a file gives it
+abbrev pub unmarked : Mesh → Mesh
+unmarked m = record m { solid = finite.empty }
+
+-- and then the mesh is the one that is read from its text, but for its solid vertices
+abbrev pub DenseMeshesAreRead : Type 0
+DenseMeshesAreRead =
+    (m : Mesh) → IsSound m → m.limits ≡ limits_of Large → has_dense_ids m ≡ true →
+    renumbered Large m ≡ unmarked m
+
+-- a line for each of these vertices, that it is solid
+abbrev pub solid_lines : List ℕ → List LogLine
+solid_lines vertices = map (λ v. Solid v) vertices
+
+-- the first lines of a log of a mesh: that of the version, that of the mesh, which has the number
+-- 0, and one for each solid vertex, by rising id
+abbrev pub head_lines : Mesh → List LogLine
+head_lines m = First VERSION ∷ mesh_line 0 m ∷ solid_lines (solid_vertices m)
+
+-- in a log that begins, mesh 0 is saved
+abbrev pub begun : State → State
+begun s = record s { saved = 1 }
+
+-- a log begins: its first lines are told
+abbrev pub begin_effect : State → Effect
+begin_effect s = Proceeds (head_lines s.mesh) (begun s)
+
+-- it ends: its last line is told, and nothing changes
+abbrev pub end_effect : State → Effect
+end_effect s = Proceeds (End ∷ []) s
