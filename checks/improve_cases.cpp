@@ -123,6 +123,23 @@ Shape neck(double size)
     }
     return s;
 }
+// A bar with a groove along its top: its sides' normals have a cosine of 0.1.
+Shape groove()
+{
+    Shape s;
+    const std::pair<double, double> ring[] = {{-170, -200}, {0, -200}, {170, -200}, {170, 63}, {70, 63}, {0, 0}, {-70, 63}, {-170, 63}};
+    for (int k = 0; k < 6; ++k)
+        for (const auto &[y, z] : ring)
+            s.points.push_back({100.0 * k, y, z});
+    s.points.push_back({0, 0, -100}), s.points.push_back({500, 0, -100});
+    for (int i = 0; i < 8; ++i) {
+        const int j = (i + 1) % 8;
+        for (int k = 0; k < 40; k += 8)
+            s.faces.push_back({k + i, k + j, k + 8 + j}), s.faces.push_back({k + i, k + 8 + j, k + 8 + i});
+        s.faces.push_back({48, j, i}), s.faces.push_back({49, 40 + i, 40 + j});
+    }
+    return s;
+}
 Shape box(double x, double y, double z, const Point &low)
 { // with a grid of squares of side 100 on each side
     return Contour([=](const Point &p) {
@@ -280,6 +297,11 @@ void merges()
             const Counts c = after(slabs, 100, 1, told);
             is("two slabs become one body, with no fold, in one call", are(c, 1, 2) && c.folds == 0 && told.seeds == 1);
         }
+    topo_tracker open = tracked(groove());
+    is("a groove whose sides hardly face each other is left", topo_mesh::merge(open, Merging{100}).folds_closed == 0);
+    const double before = volume(open);
+    const Merged along = topo_mesh::merge(open, merging_along_normals(100));
+    is("and closed along normals", along.folds_closed > 3 && along.seeds == 0 && are(counts(open), 1, 2) && volume(open) > before);
     topo_tracker t = tracked(bodies(2, 0.3 * h));
     for (int i = 0; i < 3; ++i)
         t.zip(1.2 * h), t.pinch();

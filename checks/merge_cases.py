@@ -21,7 +21,7 @@ import improve  # noqa: E402
 import merge  # noqa: E402
 import topo  # noqa: E402
 from calling import library_of  # noqa: E402
-from improve_cases import H, ball, edges_of, read, six_volume_of  # noqa: E402
+from improve_cases import H, ball, edges_of, read, six_volume, six_volume_of  # noqa: E402
 
 LIBRARY = None
 held, failed = 0, []
@@ -55,6 +55,17 @@ def slab(wide, high):
             a, b, c, d = (rows.setdefault(tuple(q), len(rows) + 1) for q in square)
             faces += [(a, b, c), (a, c, d)]
     return [(x * H - wide * H // 2, y * H - wide * H // 2, z * H) for x, y, z in rows], faces
+
+
+def groove():
+    """A bar with a groove along its top: its sides' normals have a cosine of 0.1."""
+    ring = (-1700, -2000), (0, -2000), (1700, -2000), (1700, 630), (700, 630), (0, 0), (-700, 630), (-1700, 630)
+    points = [(H * k, y, z) for k in range(6) for y, z in ring] + [(0, 0, -H), (5 * H, 0, -H)]
+    faces = []
+    for i, j in ((i, i % 8 + 1) for i in range(1, 9)):
+        faces += [face for k in range(0, 40, 8) for face in ((k + i, k + j, k + 8 + j), (k + i, k + 8 + j, k + 8 + i))]
+        faces += [(49, j, i), (50, 40 + i, 40 + j)]
+    return points, faces
 
 
 def figures(surface):
@@ -134,6 +145,15 @@ def slabs():
                   len(outer) == 1 and euler == 2 * count and crowded == 0 and abs(share - 1) < 0.05)
 
 
+def grooves():
+    with bodies([(groove(), (0, 0, 0))]) as surface:
+        last = read(surface)
+        holds("a groove whose sides hardly face each other", merged(surface) == merge.Merged() and read(surface) == last)
+        told = merge.merge(surface, merge.merging_along_normals(H))
+        holds(f"along normals it is closed: {told}", told.folds_closed > 3 and told.seeds == 0 and figures(surface) == (1, 2, 0))
+        holds("and filled", six_volume(read(surface)) > six_volume(last))
+
+
 def volumes(surface):
     """Six times the volume of each component."""
     points, faces = read(surface)
@@ -171,7 +191,7 @@ def main():
     found = improve.numpy
     for numpy in (None, found) if found else (None,):
         improve.numpy = topo.numpy = merge.numpy = numpy
-        for case in (two_balls, eight_balls, slabs, mended):
+        for case in (two_balls, eight_balls, slabs, grooves, mended):
             case()
     print("".join(f"no: {what}\n" for what in failed) + f"{held} hold, {len(failed)} do not; {'with and ' if found else ''}without numpy")
     sys.exit(bool(failed))

@@ -47,6 +47,16 @@ struct Merging {
     int mend_rounds = 20;               // of mend
 };
 
+// For a surface that moves along its normals, as one that grows. The groove between two bodies opens while they grow, and its bottom is to
+// move faster than the vertices there do, which go along the mean of their faces' normals. Were it closed only as far as its sides face
+// each other, it would fall behind, and its sides would meet above it: a bubble.
+inline Merging merging_along_normals(double average_edge_length)
+{
+    Merging by{average_edge_length};
+    by.folded = 0.3;
+    return by;
+}
+
 // What was done, and what was tried and taken back, by reason.
 struct Merged {
     long seeds = 0, folds_closed = 0, pinches = 0, mended = 0;
