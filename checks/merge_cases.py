@@ -57,15 +57,21 @@ def slab(wide, high):
     return [(x * H - wide * H // 2, y * H - wide * H // 2, z * H) for x, y, z in rows], faces
 
 
-def groove():
-    """A bar with a groove along its top: its sides' normals have a cosine of 0.1."""
-    ring = (-1700, -2000), (0, -2000), (1700, -2000), (1700, 630), (700, 630), (0, 0), (-700, 630), (-1700, 630)
-    points = [(H * k, y, z) for k in range(6) for y, z in ring] + [(0, 0, -H), (5 * H, 0, -H)]
-    faces = []
-    for i, j in ((i, i % 8 + 1) for i in range(1, 9)):
-        faces += [face for k in range(0, 40, 8) for face in ((k + i, k + j, k + 8 + j), (k + i, k + 8 + j, k + 8 + i))]
-        faces += [(49, j, i), (50, 40 + i, 40 + j)]
-    return points, faces
+OPEN = (700, 630), (0, 0), (-700, 630)  # the normals of its sides have a cosine of 0.1
+LIPS = (200, 1100), (700, 900), (0, 0), (-700, 900), (-200, 1100)
+
+
+def groove(sides):
+    """A bar along x with a groove along its top, by its sides in the plane across, from rim to rim. At its ends there are no lips."""
+    top, faces = max(z for _, z in sides), []
+    ring = [(-1700, -2000), (0, -2000), (1700, -2000), (1700, top), *sides, (-1700, top)]
+    size, last = len(ring), 5 * len(ring)
+    points = [(H * k, y if k in (1, 2, 3, 4) or abs(y) != 200 else 9 * y // 2, z) for k in range(6) for y, z in ring]
+    for i, j in ((i, i % size + 1) for i in range(1, size + 1)):
+        for k in range(0, last, size):
+            faces += [(k + i, k + j, k + size + j), (k + i, k + size + j, k + size + i)]
+        faces += [(last + size + 1, j, i), (last + size + 2, last + i, last + j)]
+    return points + [(0, 0, -H), (5 * H, 0, -H)], faces
 
 
 def figures(surface):
@@ -146,7 +152,10 @@ def slabs():
 
 
 def grooves():
-    with bodies([(groove(), (0, 0, 0))]) as surface:
+    with bodies([(groove(LIPS), (0, 0, 0))]) as surface:
+        told = merged(surface)
+        holds(f"a groove below lips, which would turn over, is filled: {told}", told.filled > 3 and figures(surface) == (1, 2, 0))
+    with bodies([(groove(OPEN), (0, 0, 0))]) as surface:
         last = read(surface)
         holds("a groove whose sides hardly face each other", merged(surface) == merge.Merged() and read(surface) == last)
         told = merge.merge(surface, merge.merging_along_normals(H))
