@@ -123,6 +123,25 @@ Shape neck(double size)
     }
     return s;
 }
+// A bar along x with a groove along its top, by its corners in the plane across: of the groove's sides, from the right rim to the left.
+Shape groove(const std::vector<std::pair<double, double>> &sides)
+{
+    Shape s;
+    std::vector<std::pair<double, double>> ring{{-170, -200}, {0, -200}, {170, -200}};
+    ring.insert(ring.end(), sides.begin(), sides.end());
+    const int size = static_cast<int>(ring.size()), last = 5 * size;
+    for (int k = 0; k < 6; ++k)
+        for (const auto &[y, z] : ring)
+            s.points.push_back({100.0 * k, y, z});
+    s.points.push_back({0, 0, -100}), s.points.push_back({500, 0, -100});
+    for (int i = 0; i < size; ++i) {
+        const int j = (i + 1) % size;
+        for (int k = 0; k < last; k += size)
+            s.faces.push_back({k + i, k + j, k + size + j}), s.faces.push_back({k + i, k + size + j, k + size + i});
+        s.faces.push_back({last + size, j, i}), s.faces.push_back({last + size + 1, last + i, last + j});
+    }
+    return s;
+}
 Shape box(double x, double y, double z, const Point &low)
 { // with a grid of squares of side 100 on each side
     return Contour([=](const Point &p) {
@@ -156,6 +175,11 @@ void collapses()
     const Change needles = [](Improving &g) { g.min_triangle_angle = 70, g.needle_max_length = 10; };
     holds("collapse: a needle's angle", round, Pass::collapse, needles, [](Improving &g) { g.min_triangle_angle = 15; });
     holds("collapse: a needle's length", round, Pass::collapse, needles, [](Improving &g) { g.needle_max_length = 0.5; });
+    const auto by_volume = [](const Improving &from) {
+        const Change change = [&](Improving &g) { g.min_edge_length = 0.9, g.max_volume_change = from.max_volume_change; };
+        return done(ball({0, 0, 0}, 600, 100), Pass::collapse, change);
+    };
+    is("collapse: of more volume along normals", by_volume(Improving{100}) == 0 && by_volume(moving_along_normals(100)) > 0);
     const Shape flap = overhang();
     const Change mend = [](Improving &g) { g.fold_cosine = -0.5; };
     holds("collapse: beside a fold", flap, Pass::collapse, mend, [](Improving &g) { g.fold_cosine = -2; });
@@ -280,6 +304,18 @@ void merges()
             const Counts c = after(slabs, 100, 1, told);
             is("two slabs become one body, with no fold, in one call", are(c, 1, 2) && c.folds == 0 && told.seeds == 1);
         }
+    // the normals of its sides have a cosine of 0.1
+    topo_tracker open = tracked(groove({{170, 63}, {70, 63}, {0, 0}, {-70, 63}, {-170, 63}}));
+    is("a groove whose sides hardly face each other is left", topo_mesh::merge(open, Merging{100}).folds_closed == 0);
+    const double before = volume(open);
+    const Merged along = topo_mesh::merge(open, merging_along_normals(100));
+    is("and closed along normals", along.folds_closed > 3 && along.seeds == 0 && are(counts(open), 1, 2) && volume(open) > before);
+    Shape under = groove({{170, 110}, {20, 110}, {70, 90}, {0, 0}, {-70, 90}, {-20, 110}, {-170, 110}});
+    for (const int k : {0, 50}) // no lips at its ends
+        under.points[k + 4][1] = 90, under.points[k + 8][1] = -90;
+    topo_tracker lips = tracked(under);
+    const Merged filled = topo_mesh::merge(lips, Merging{100});
+    is("one below lips, which would turn over, is filled", filled.filled > 3 && are(counts(lips), 1, 2));
     topo_tracker t = tracked(bodies(2, 0.3 * h));
     for (int i = 0; i < 3; ++i)
         t.zip(1.2 * h), t.pinch();

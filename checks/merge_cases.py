@@ -21,7 +21,7 @@ import improve  # noqa: E402
 import merge  # noqa: E402
 import topo  # noqa: E402
 from calling import library_of  # noqa: E402
-from improve_cases import H, ball, edges_of, read, six_volume_of  # noqa: E402
+from improve_cases import H, ball, edges_of, read, six_volume, six_volume_of  # noqa: E402
 
 LIBRARY = None
 held, failed = 0, []
@@ -55,6 +55,23 @@ def slab(wide, high):
             a, b, c, d = (rows.setdefault(tuple(q), len(rows) + 1) for q in square)
             faces += [(a, b, c), (a, c, d)]
     return [(x * H - wide * H // 2, y * H - wide * H // 2, z * H) for x, y, z in rows], faces
+
+
+OPEN = (700, 630), (0, 0), (-700, 630)  # the normals of its sides have a cosine of 0.1
+LIPS = (200, 1100), (700, 900), (0, 0), (-700, 900), (-200, 1100)
+
+
+def groove(sides):
+    """A bar along x with a groove along its top, by its sides in the plane across, from rim to rim. At its ends there are no lips."""
+    top, faces = max(z for _, z in sides), []
+    ring = [(-1700, -2000), (0, -2000), (1700, -2000), (1700, top), *sides, (-1700, top)]
+    size, last = len(ring), 5 * len(ring)
+    points = [(H * k, y if k in (1, 2, 3, 4) or abs(y) != 200 else 9 * y // 2, z) for k in range(6) for y, z in ring]
+    for i, j in ((i, i % size + 1) for i in range(1, size + 1)):
+        for k in range(0, last, size):
+            faces += [(k + i, k + j, k + size + j), (k + i, k + size + j, k + size + i)]
+        faces += [(last + size + 1, j, i), (last + size + 2, last + i, last + j)]
+    return points + [(0, 0, -H), (5 * H, 0, -H)], faces
 
 
 def figures(surface):
@@ -134,6 +151,18 @@ def slabs():
                   len(outer) == 1 and euler == 2 * count and crowded == 0 and abs(share - 1) < 0.05)
 
 
+def grooves():
+    with bodies([(groove(LIPS), (0, 0, 0))]) as surface:
+        told = merged(surface)
+        holds(f"a groove below lips, which would turn over, is filled: {told}", told.filled > 3 and figures(surface) == (1, 2, 0))
+    with bodies([(groove(OPEN), (0, 0, 0))]) as surface:
+        last = read(surface)
+        holds("a groove whose sides hardly face each other", merged(surface) == merge.Merged() and read(surface) == last)
+        told = merge.merge(surface, merge.merging_along_normals(H))
+        holds(f"along normals it is closed: {told}", told.folds_closed > 3 and told.seeds == 0 and figures(surface) == (1, 2, 0))
+        holds("and filled", six_volume(read(surface)) > six_volume(last))
+
+
 def volumes(surface):
     """Six times the volume of each component."""
     points, faces = read(surface)
@@ -171,7 +200,7 @@ def main():
     found = improve.numpy
     for numpy in (None, found) if found else (None,):
         improve.numpy = topo.numpy = merge.numpy = numpy
-        for case in (two_balls, eight_balls, slabs, mended):
+        for case in (two_balls, eight_balls, slabs, grooves, mended):
             case()
     print("".join(f"no: {what}\n" for what in failed) + f"{held} hold, {len(failed)} do not; {'with and ' if found else ''}without numpy")
     sys.exit(bool(failed))

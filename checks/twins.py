@@ -20,7 +20,7 @@ import merge  # noqa: E402
 import topo  # noqa: E402
 from calling import library_of  # noqa: E402
 from improve_cases import H, ball  # noqa: E402
-from merge_cases import slab  # noqa: E402
+from merge_cases import LIPS, OPEN, groove, slab  # noqa: E402
 
 
 def pair(shape, by):
@@ -36,6 +36,8 @@ def jobs():
     yield "two balls", "merge", 2, pair(ball(4), (far + 400, 31, 17))
     yield "two bumpy balls", "merge", 2, pair(ball(4, 0.1, 5), (31, far + 500, 17))
     yield "slabs", "merge", 2, pair(slab(6, 2), (300, 180, 2500))
+    yield "a groove", "merge along normals", 2, groove(OPEN)
+    yield "a groove below lips", "merge", 2, groove(LIPS)
     yield "zipped balls", "mend", 1, pair(ball(4), (far + 100, 31, 17))
 
 
@@ -52,6 +54,8 @@ def log_of(library, mode, rounds, points, faces):
                 improver.improve()
             elif mode == "merge":
                 merge.merge(surface, merge.Merging(H))
+            elif mode == "merge along normals":
+                merge.merge(surface, merge.merging_along_normals(H))
             else:
                 surface.zip(H)
                 surface.pinch()

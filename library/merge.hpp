@@ -47,6 +47,16 @@ struct Merging {
     int mend_rounds = 20;               // of mend
 };
 
+// For a surface that moves along its normals, as one that grows. The groove between two bodies opens while they grow, and its bottom is to
+// move faster than the vertices there do, which go along the mean of their faces' normals. Were it closed only as far as its sides face
+// each other, it would fall behind, and its sides would meet above it: a bubble.
+inline Merging merging_along_normals(double average_edge_length)
+{
+    Merging by{average_edge_length};
+    by.folded = 0.3;
+    return by;
+}
+
 // What was done, and what was tried and taken back, by reason.
 struct Merged {
     long seeds = 0, folds_closed = 0, pinches = 0, mended = 0;
@@ -68,9 +78,15 @@ public:
     {
         mesh.read(tracker);
         read_points();
-        for (const Mesh::Edge &e : mesh.edges) // folds that an earlier call left
-            if (cosine(mesh.normal(e.left), mesh.normal(e.right)) <= by.folded)
-                push(mesh.id[e.a], mesh.id[e.b]);
+        normals.clear();
+        for (int f = 0; f < static_cast<int>(mesh.faces.size()); ++f) {
+            const Point n = mesh.normal(f);
+            const double size = norm(n);
+            normals.push_back((size > 0 ? 1 / size : 0) * n);
+        }
+        for (const Mesh::Edge &e : mesh.edges) // folds that an earlier call left; what is pushed is looked at exactly
+            if (dot(normals[e.left], normals[e.right]) <= by.folded + 1e-9)
+                push({mesh.id[e.a], mesh.id[e.b], mesh.id[e.c], mesh.id[e.d]});
         grow();
         for (const Match &m : matches()) {
             if (seed(m.a, m.b, m.e, m.f))
@@ -113,6 +129,7 @@ private:
     const Merging by;
     const double h, gap, reach;            // in grid units
     Mesh mesh;                             // as it was when the call began
+    std::vector<Point> normals;            // of its faces, of length 1, or 0 where a face has no area
     std::unordered_map<Id, Point> at;      // where each vertex stands
     std::priority_queue<Fold> queue;       // the nearest first
     std::map<Pair, int> tried;             // how often closing a fold over this edge was refused
@@ -216,21 +233,32 @@ private:
             return false;
         return std::min(over / size, dot(m, c - a) / other) <= gap;
     }
-    void push(Id a, Id b)
+    void push(const Ring &r)
     {
-        Ring r;
-        if (ring(std::min(a, b), std::max(a, b), r) && is_fold(r))
+        if (is_fold(r))
             queue.push({norm(at[r.c] - at[r.d]), r.a, r.b});
     }
+    // The folds at the edges of a vertex and of its neighbours.
     void push_around(Id v)
     {
         if (!at.count(v))
             return;
-        for (const Id w : around(v)) {
-            push(v, w);
-            for (const Id u : around(w))
-                if (u != v)
-                    push(w, u);
+        std::set<Id> near = around(v);
+        near.insert(v);
+        std::set<std::array<Id, 4>> sides; // of a face: an edge, whether it runs back, and the corner opposite it
+        for (const Id w : near)
+            for (const topo_face &f : tracker.star(w))
+                for (const auto &k : {std::array<Id, 3>{f.a, f.b, f.c}, {f.b, f.c, f.a}, {f.c, f.a, f.b}})
+                    if (k[0] == w || k[1] == w)
+                        sides.insert({std::min(k[0], k[1]), std::max(k[0], k[1]), k[0] > k[1], k[2]});
+        for (auto it = sides.begin(); it != sides.end();) {
+            const std::array<Id, 4> forth = *it, back = ++it == sides.end() ? forth : *it;
+            const auto same = [&] { return it != sides.end() && (*it)[0] == forth[0] && (*it)[1] == forth[1]; };
+            int count = 1;
+            for (; same(); ++it)
+                ++count;
+            if (count == 2 && !forth[2] && back[2] && forth[3] != back[3])
+                push({forth[0], forth[1], forth[3], back[3]});
         }
     }
     // Whether faces that stay would turn over, were c and d to go to their middle.
@@ -338,48 +366,52 @@ private:
         return true;
     }
     struct Side { Point mid, normal; Id a, b; };
-    void match(const Side &s, const Side &u, std::vector<Match> &found) const
+    // Whether each lies on the outer side of the other, near by.
+    bool face_each_other(const Side &s, const Side &u) const
     {
+        if (dot(s.normal, u.normal) > by.facing)
+            return false;
         const Point d = u.mid - s.mid;
-        // each lies on the outer side of the other
-        if (dot(s.normal, u.normal) > by.facing || dot(d, d) > gap * gap || dot(d, s.normal) <= 0 || dot(d, u.normal) >= 0)
-            return;
-        const auto a = at.find(s.a), b = at.find(s.b), e = at.find(u.a), f = at.find(u.b);
-        if (a == at.end() || b == at.end() || e == at.end() || f == at.end())
-            return;
-        const auto far = [](const auto &p, const auto &q) { return norm(p->second - q->second); };
-        const double ends = std::min(far(a, e) + far(b, f), far(a, f) + far(b, e));
-        found.push_back({norm(d) + ends, s.a, s.b, u.a, u.b});
+        return dot(d, d) <= gap * gap && dot(d, s.normal) > 0 && dot(d, u.normal) < 0;
+    }
+    Match match(const Side &s, const Side &u)
+    {
+        const Point &a = at[s.a], &b = at[s.b], &e = at[u.a], &f = at[u.b];
+        return {norm(u.mid - s.mid) + std::min(norm(a - e) + norm(b - f), norm(a - f) + norm(b - e)), s.a, s.b, u.a, u.b};
     }
     // The pairs of edges that face each other across a gap, the nearest first.
     std::vector<Match> matches()
     {
-        std::vector<Side> row; // by x
-        for (const Mesh::Edge &e : mesh.edges) {
-            const Point n = mesh.normal(e.left), m = mesh.normal(e.right);
-            if (norm(n) > 0 && norm(m) > 0)
-                row.push_back({0.5 * (mesh.points[e.a] + mesh.points[e.b]), 0.5 * ((1 / norm(n)) * n + (1 / norm(m)) * m), mesh.id[e.a],
-                    mesh.id[e.b]});
-        }
-        const auto by_x = [](const Side &s, const Side &u) { return std::tie(s.mid[0], s.a, s.b) < std::tie(u.mid[0], u.a, u.b); };
-        std::sort(row.begin(), row.end(), by_x);
-        // by cells as wide as the gap, three in a row along x being next to one another
+        // by cells as wide as the gap, in rows along x
         using Cell = std::array<std::int32_t, 3>;
-        std::vector<std::pair<Cell, int>> cells;
-        for (std::size_t i = 0; i < row.size(); ++i) {
-            const auto in = [&](int axis) { return static_cast<std::int32_t>(std::floor(row[i].mid[axis] / gap)); };
-            cells.push_back({{in(2), in(1), in(0)}, static_cast<int>(i)});
+        std::vector<std::pair<Cell, Side>> sides;
+        sides.reserve(mesh.edges.size());
+        for (const Mesh::Edge &e : mesh.edges) {
+            const Point &n = normals[e.left], &m = normals[e.right];
+            if (!(dot(n, n) > 0) || !(dot(m, m) > 0))
+                continue;
+            const Point mid = 0.5 * (mesh.points[e.a] + mesh.points[e.b]);
+            const auto in = [&](int axis) { return static_cast<std::int32_t>(std::floor(mid[axis] / gap)); };
+            sides.push_back({{in(2), in(1), in(0)}, {mid, 0.5 * (n + m), mesh.id[e.a], mesh.id[e.b]}});
         }
-        std::sort(cells.begin(), cells.end());
+        std::sort(sides.begin(), sides.end(), [](const auto &s, const auto &u) { return s.first < u.first; });
         std::vector<Match> found;
-        for (const auto &[cell, i] : cells)
-            for (int k = 0; k < 9; ++k) {
-                const Cell low{cell[0] + k / 3 - 1, cell[1] + k % 3 - 1, cell[2] - 1};
-                for (auto it = std::lower_bound(cells.begin(), cells.end(), std::pair(low, 0));
-                     it != cells.end() && it->first[0] == low[0] && it->first[1] == low[1] && it->first[2] <= low[2] + 2; ++it)
-                    if (it->second > i)
-                        match(row[i], row[it->second], found);
+        // of the cells about one, those that come behind it; in each of five rows these move on as it does
+        const std::array<int, 2> rows[] = {{0, 0}, {0, 1}, {1, -1}, {1, 0}, {1, 1}};
+        std::size_t from[5] = {};
+        for (std::size_t i = 0; i < sides.size(); ++i) {
+            const Cell &cell = sides[i].first;
+            for (int k = 0; k < 5; ++k) {
+                const auto [z, y] = rows[k];
+                const Cell low{cell[0] + z, cell[1] + y, cell[2] - 1}, high{low[0], low[1], cell[2] + 1};
+                while (from[k] < sides.size() && (k ? sides[from[k]].first < low : from[k] <= i))
+                    ++from[k];
+                for (std::size_t j = from[k]; j < sides.size() && sides[j].first <= high; ++j)
+                    if (const Side &s = sides[i].second, &u = sides[j].second; face_each_other(s, u) && at.count(s.a) && at.count(s.b)
+                        && at.count(u.a) && at.count(u.b))
+                        found.push_back(std::tie(s.mid[0], s.a, s.b) < std::tie(u.mid[0], u.a, u.b) ? match(s, u) : match(u, s));
             }
+        }
         const auto by_far = [](const Match &p, const Match &q) {
             return std::tie(p.far, p.a, p.b, p.e, p.f) < std::tie(q.far, q.a, q.b, q.e, q.f);
         };

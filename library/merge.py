@@ -54,6 +54,13 @@ class Merging:
     mend_rounds: int = 20           # of mend
 
 
+def merging_along_normals(average_edge_length):
+    """For a surface that moves along its normals, as one that grows. The groove between two bodies opens while they grow, and its bottom
+    is to move faster than the vertices there do, which go along the mean of their faces' normals. Were it closed only as far as its sides
+    face each other, it would fall behind, and its sides would meet above it: a bubble."""
+    return Merging(average_edge_length, folded=0.3)
+
+
 @dataclasses.dataclass
 class Merged:
     """What was done, and what was tried and taken back, by reason."""

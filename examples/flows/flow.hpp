@@ -95,19 +95,19 @@ public:
     Mesh mesh;                 // rows, in grid units
     std::vector<Point> points; // by row, in metres
     double exact = 0;          // the volume that the flow would leave, where it is known
-    double merging = 0;        // in h: sheets are merged across gaps up to this; 0 merges none
     Improving improving;
+    Merging merging;           // where merge_proximity is 0, no sheets are merged
     double smoothing;
     long steps = 0, least_steps = 0, fold_steps = 0, ways[5] = {}, components = 0, euler = 0;
     double volume = 0, first_volume = 0, least_ever = 180;
     Merged merged;
 
-    Run(const Words &words, const Shape &shape, double h) : Run(words, shape, h, Improving{h}) {}
-    Run(const Words &words, const Shape &shape, double h, const Improving &by)
-        : h(h), improving(by), smoothing(words("smooth", 0.2)), folder(words.folder), log_kept(words("log", 0) != 0)
+    Run(const Words &words, const Shape &shape, double h) : Run(words, shape, h, Improving{h}, Merging{h}) {}
+    Run(const Words &words, const Shape &shape, double h, const Improving &by, const Merging &join_by)
+        : h(h), improving(by), merging(join_by), smoothing(words("smooth", 0.2)), folder(words.folder), log_kept(words("log", 0) != 0)
     {
         improving.allow_topology_changes = words("part", 0) != 0;
-        merging = words("merge", 0), plain = words("plain", 0) != 0;
+        merging.merge_proximity = words("merge", 0), plain = words("plain", 0) != 0;
         csv = std::fopen((folder + "/steps.csv").c_str(), "w");
         if (!csv)
             throw std::runtime_error(folder + ": there is no such folder");
@@ -142,7 +142,7 @@ public:
         else
             improver->improve();
         refused = refusals(improver->told) - refusals(before), spent[2] = until();
-        if (merging > 0)
+        if (merging.merge_proximity > 0)
             join();
         spent[3] = until();
         tally();
@@ -248,9 +248,7 @@ private:
     }
     void join()
     {
-        Merging by{h};
-        by.merge_proximity = merging;
-        const Merged m = merge(*tracker, by);
+        const Merged m = merge(*tracker, merging);
         merged.seeds += m.seeds, merged.folds_closed += m.folds_closed, merged.pinches += m.pinches, merged.turning += m.turning;
         merged.filled += m.filled;
         merged.undone_refused += m.undone_refused, merged.undone_crowded += m.undone_crowded;

@@ -34,9 +34,10 @@ def plus(a, b, share=1.0):
 class Run:
     """A surface that a flow carries: `points` by row, in metres, `mesh` in grid units."""
 
-    def __init__(self, words, points, faces, h, improving=None):
+    def __init__(self, words, points, faces, h, improving=None, merging=None):
         self.folder, given = words
-        self.h, self.smooth, self.merging = h, given.get("smooth", 0.2), given.get("merge", 0)
+        self.h, self.smooth, self.merging = h, given.get("smooth", 0.2), merging or merge.Merging(h)
+        self.merging.merge_proximity = given.get("merge", 0)  # where it is 0, no sheets are merged
         self.kept, self.frames = given.get("log", 0) != 0, int(given.get("frames", 0))
         self.surface = topo.Tracker(points, [(a + 1, b + 1, c + 1) for a, b, c in faces], unit=h * 1e-5)
         improving = improving or improve.Improving(h)
@@ -63,8 +64,8 @@ class Run:
         self.improver.improve()
         refused = self.refusals() - before
         spent.append(time.process_time())
-        if self.merging > 0:
-            refused += merge.merge(self.surface, merge.Merging(self.h, merge_proximity=self.merging)).undone_refused
+        if self.merging.merge_proximity > 0:
+            refused += merge.merge(self.surface, self.merging).undone_refused
         spent.append(time.process_time())
         done = self.tally()
         self.mesh.read()

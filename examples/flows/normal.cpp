@@ -30,7 +30,7 @@ try {
         middles.push_back({(i & 1) * apart + 0.0013 * i, (i >> 1 & 1) * apart + 0.0017 * i, (i >> 2 & 1) * apart + 0.0009 * i});
         shape.add(ball(middles.back(), radius, h));
     }
-    Run run(word, shape, h, moving_along_normals(h));
+    Run run(word, shape, h, moving_along_normals(h), merging_along_normals(h));
     run.write("first.obj");
     const long steps = long(word("steps", 10));
     double r = radius;

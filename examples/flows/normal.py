@@ -44,8 +44,8 @@ def main():
         more, others = shapes.ball(middles[-1], radius, h)
         faces += [tuple(v + len(points) for v in face) for face in others]
         points += more
-    improving = flow.improve.moving_along_normals(h)
-    run, r, joined = flow.Run(words, points, faces, h, improving), radius, -1
+    ways = flow.improve.moving_along_normals(h), flow.merge.merging_along_normals(h)
+    run, r, joined = flow.Run(words, points, faces, h, *ways), radius, -1
     run.write("first.obj")
     for s in range(1, int(steps) + 1):
         to, r = [plus(p, n, h / 2) for p, n in zip(run.points, normals(run))], r + h / 2
