@@ -252,7 +252,10 @@ calls_good scale (call ∷ calls) s room may =
 
 -- they leave room for as many more as there was
 pub calls_keep : (scale : Scale) (more : ℕ) (calls : List Call) (s : State) → HasRoomFor scale (length calls + more) s → MayAllBeCalled calls s → HasRoomFor scale more (state_after calls s)
-calls_keep scale more [] s room may = room
+calls_keep scale more [] s room may =
+    let a = room.steps in
+    let b = room.saved in
+    record { kept = room.kept; within = room.within; limits = room.limits; steps = omega (arith, a); saved = omega (arith, b) }
 calls_keep scale more (call ∷ calls) s room may =
     let a = room.steps in
     let b = room.saved in
