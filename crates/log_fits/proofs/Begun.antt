@@ -1,5 +1,5 @@
 -- The log of a caller that is begun at the mesh as it is.
-use Rattle.std.proofs.Common.{◌≡◌, ◌⊎◌, ⊎_elim, inl, inr, ℕ, ◌+◌, ◌≤◌, Bool, true, false, is_some, List, [], ◌∷◌, ◌++◌, length, map, Option, Some, None, refl, sym, ap, ◌∙◌, subst, arith}
+use Rattle.std.proofs.Common.{◌≡◌, ◌⊎◌, ⊎_elim, inl, inr, ℕ, ◌+◌, Bool, true, false, List, [], ◌∷◌, ◌++◌, length, map, Option, Some, None, refl, sym, ◌∙◌, subst, arith}
 use Rattle.std.specs.Prelude.{IsSome}
 use Rattle.std.specs.List.{AllByRecursion}
 use Rattle.std.specs.Cmp.{nat_cmp_total}
@@ -10,7 +10,6 @@ use Rattle.std.proofs.lemmas.List.Elements.{All-nil, All-cons, All-append}
 use Rattle.grid_base.specs.declared.TheConstants.{ID_MAX}
 use Rattle.mesh_base.specs.declared.Scale.{Scale}
 use Rattle.mesh_base.specs.declared.Scale.TheVariants.{Large}
-use Rattle.mesh_base.specs.Changes.{with_solid}
 use Rattle.mesh_base.specs.Mesh.{IdSet, Mesh, IsSound, IsLiveVertex, is_solid}
 use Rattle.mesh_base.specs.Placements.{IsClearMesh}
 use Rattle.mesh_base.specs.Valid.{IsValidSurface}
@@ -21,7 +20,7 @@ use Rattle.log_text.specs.declared.LogLine.{LogLine}
 use Rattle.log_text.specs.declared.LogLine.TheVariants.{Solid, End}
 use Rattle.log_read.specs.Laws.{IsFrom}
 use Rattle.log_replay.specs.Again.{LineIsAgain, LinesAreAgain}
-use Rattle.log_replay.specs.Laws.{HaveLimits, IsWithin}
+use Rattle.log_replay.specs.Laws.{IsWithin}
 use Rattle.log_replay.specs.Replay.{Replay, replayed, after, at_mesh, at_mesh_in_groups}
 use Rattle.log_replay.proofs.Limits.{within_large}
 use Rattle.log_replay.proofs.Replaying.{each_then}
@@ -30,7 +29,7 @@ use Rattle.run_laws.specs.Lines.{MayFollow, AreInRange}
 use Rattle.run_laws.proofs.StepLines.{mesh_in_range}
 use Rattle.track_engine.specs.Effects.{mesh_line}
 use Rattle.track_engine.specs.Kept.{LineHolds, LogIsSafe}
-use Rattle.track_engine.specs.State.{Group, State, standing, unsaved}
+use Rattle.track_engine.specs.State.{Group, standing, unsaved}
 use Rattle.track_engine.proofs.Keeping.{saved_well}
 use Rattle.track_held.specs.Heads.{unmarked, solid_lines, begun}
 use Rattle.track_held.specs.Reading.{solid_vertices}
