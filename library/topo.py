@@ -45,7 +45,7 @@ CODES = {
     STOPPED: "an earlier directive had no memory: the tracker can be read and freed, no more",
     SPENT: "2^32 - 1 steps were taken, or as many meshes saved",
     GROUPED: "a group is open",
-    SPARSE: "an id that was given is none any more: topo_renumber goes before",
+    SPARSE: "an id below the next one is left out: topo_renumber goes before",
 }
 REASONS = {
     1: "no live vertex has the id {a}",
@@ -495,7 +495,7 @@ class Tracker:
 
     def begin_log(self):
         """Begins a log at the surface as it is: what was told is forgotten, and the first lines of a log file are told. Refused where a group is open, and where
-        an id that was given is none any more: then `renumber` goes before."""
+        an id below the next one is left out: then `renumber` goes before."""
         self.call("topo_begin_log")
 
     def save(self):

@@ -14,7 +14,7 @@ use Rattle.topo_library.specs.declared.tracker.Tracker.{Tracker}
 abbrev pub IsGrouped : Tracker → Type 0
 IsGrouped t = GoesOn t × IsTrue (is_open (tracker_state t).groups)
 
--- it goes on, no group is open, and an id that a vertex or a face has got is none any more
+-- it goes on, no group is open, and an id below the next one is left out, of vertices or of faces
 pub record IsSparse (t : Tracker) : Type 0 where
   pub goes_on : GoesOn t
   pub closed : is_open (tracker_state t).groups ≡ false

@@ -549,7 +549,7 @@ pub extern "C" fn topo_renumber(alloc: Global, topo: &mut Topo) -> u32
 }
 
 /// Begins a log at the mesh as it is: what was told is forgotten, and the first lines are told: that of the version, that of the mesh, which gets
-/// the number 0, and one for each solid vertex. Refused where a group is open, and where an id that a vertex or a face has got is none any more.
+/// the number 0, and one for each solid vertex. Refused where a group is open, and where an id below the next one is left out, of vertices or of faces.
 #[unsafe(no_mangle)]
 pub extern "C" fn topo_begin_log(alloc: Global, topo: &mut Topo) -> u32
     ensures { HandleHasBegunLog topo result }

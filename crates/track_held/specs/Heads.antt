@@ -16,8 +16,8 @@ use Rattle.track_engine.specs.State.{State}
 use Rattle.track_engine.specs.Effects.{Effect, Proceeds, mesh_line}
 use Rattle.track_held.specs.Reading.{solid_vertices}
 
--- whether as many vertices and faces live as have ever got an id, so that their ids run from 1 on
--- with none left out, as those of a mesh that is read from a file
+-- whether the ids of vertices and of faces run from 1 on, up to the next one, with none left out, as
+-- those of a mesh that is read from a file
 abbrev pub has_dense_ids : Mesh → Bool
 has_dense_ids m =
     (m.next_vertex == finite.len m.points + 1) && (m.next_face == finite.len m.faces + 1)

@@ -19,7 +19,7 @@ use mesh_base::{Surface, UseWhy, VertexId};
 use outside_io::Stop;
 use std::alloc::Global;
 
-/// Of a mesh that is made of points and faces ids are dense: as many vertices and faces live as have ever got an id. Where that is so,
+/// Of a mesh that is made of points and faces ids are dense: they run from 1 on, up to the next one, with none left out. Where that is so,
 /// the mesh is, but for its solid vertices, the one that its text gives where it is read.
 pub fn dense_ids_are_those_of_a_file()
     ensures made { MeshesAreMadeDense }
@@ -86,7 +86,7 @@ impl<S: Surface> Held<S> {
     ghost use Rattle.track_held.specs.Held.{engine_in, held_state, keeps_lines, log_in, goes_on};
     ghost use Rattle.track_held.specs.Writing.{WritesEffect};
 
-    /// Whether as many vertices and faces live as have ever got an id (`dense_ids_are_those_of_a_file`).
+    /// Whether the ids of vertices and of faces run from 1 on, up to the next one, with none left out (`dense_ids_are_those_of_a_file`).
     pub fn has_dense_ids(&self) -> bool
         ensures { result ≡ has_dense_ids (held_state self.now).mesh }
     {
@@ -103,7 +103,7 @@ impl<S: Surface> Held<S> {
     }
 
     /// Begins a log at the mesh as it is: what was told is forgotten, and the first lines of the log are told. Mesh 0 is
-    /// then saved. Where memory is wanting nothing is changed.
+    /// then saved. Where memory is wanting nothing is changed. That no group is open, and that ids are dense, is for the caller to ask.
     pub fn begin_log(&mut self, alloc: Global) -> Result<(), NoMemory>
         ensures tells { OnOk result (Writes (begin_effect (held_state self.old))
             (held_state self.new) (text_where (keeps_lines self.old) []) (log_in self.new) (Ok None)) }
