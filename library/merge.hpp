@@ -350,6 +350,9 @@ private:
         if (!ring(a, b, r) || !ring(e, f, s) || vertices_near(a).count(e) || vertices_near(a).count(f))
             return false;
         const Id p[4] = {b, r.c, a, r.d}, q[4] = {f, s.d, e, s.c}; // the rims of the tunnel, as the zip joins them
+        std::vector<std::pair<Id, Point>> stood;
+        for (int i = 0; i < 4; ++i)
+            stood.push_back({p[i], at[p[i]]}), stood.push_back({q[i], at[q[i]]});
         std::vector<Id> left;
         long *why = &told.undone_refused;
         const long pinches = told.pinches;
@@ -358,8 +361,14 @@ private:
         bool good = !zipped.why;
         for (int i = 0; good && i < 4; ++i)
             good = collapse({}, p[i], q[(i + zipped.b) % 4], left, why);
-        if (!good)
-            return undo(*why), told.pinches = pinches, read_points(), false;
+        if (!good) {
+            undo(*why);
+            if (told.pinches > pinches) // the copies are gone
+                told.pinches = pinches, read_points();
+            for (const auto &[v, point] : stood)
+                at[v] = point;
+            return false;
+        }
         tracker.close(), near.clear(), ++told.seeds;
         for (const Id v : left)
             push_around(v);
@@ -374,6 +383,7 @@ private:
         const Point d = u.mid - s.mid;
         return dot(d, d) <= gap * gap && dot(d, s.normal) > 0 && dot(d, u.normal) < 0;
     }
+    bool stand(const Side &s) const { return at.count(s.a) && at.count(s.b); }
     Match match(const Side &s, const Side &u)
     {
         const Point &a = at[s.a], &b = at[s.b], &e = at[u.a], &f = at[u.b];
@@ -396,7 +406,8 @@ private:
         }
         std::sort(sides.begin(), sides.end(), [](const auto &s, const auto &u) { return s.first < u.first; });
         std::vector<Match> found;
-        // of the cells about one, those that come behind it; in each of five rows these move on as it does
+        // Each side is compared with those behind it, so each pair once: in its own row of cells and in four others, three cells of each.
+        // As the sides come in order, so do the first of these, and no cell is looked up.
         const std::array<int, 2> rows[] = {{0, 0}, {0, 1}, {1, -1}, {1, 0}, {1, 1}};
         std::size_t from[5] = {};
         for (std::size_t i = 0; i < sides.size(); ++i) {
@@ -406,10 +417,11 @@ private:
                 const Cell low{cell[0] + z, cell[1] + y, cell[2] - 1}, high{low[0], low[1], cell[2] + 1};
                 while (from[k] < sides.size() && (k ? sides[from[k]].first < low : from[k] <= i))
                     ++from[k];
-                for (std::size_t j = from[k]; j < sides.size() && sides[j].first <= high; ++j)
-                    if (const Side &s = sides[i].second, &u = sides[j].second; face_each_other(s, u) && at.count(s.a) && at.count(s.b)
-                        && at.count(u.a) && at.count(u.b))
+                for (std::size_t j = from[k]; j < sides.size() && sides[j].first <= high; ++j) {
+                    const Side &s = sides[i].second, &u = sides[j].second;
+                    if (face_each_other(s, u) && stand(s) && stand(u)) // the first is that of the lesser x, as in merge.py
                         found.push_back(std::tie(s.mid[0], s.a, s.b) < std::tie(u.mid[0], u.a, u.b) ? match(s, u) : match(u, s));
+                }
             }
         }
         const auto by_far = [](const Match &p, const Match &q) {

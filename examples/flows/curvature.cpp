@@ -36,7 +36,8 @@ try {
     Words word(count, words);
     word.given.try_emplace("part", 1);
     const double h = word("h", 0.03), dt = 0.15 * h * h;
-    Run run(word, Contour(dumbbell, {-0.6503, -0.2507, -0.2509}, {0.65, 0.25, 0.25}, h).made, h, moving_along_normals(h));
+    Run run(word, Contour(dumbbell, {-0.6503, -0.2507, -0.2509}, {0.65, 0.25, 0.25}, h).made, h,
+        moving_along_normals(h), merging_along_normals(h));
     run.write("first.obj");
     long most = long(word("steps", 400)), parted = -1;
     for (long s = 1; s <= most && !run.points.empty(); ++s) {
