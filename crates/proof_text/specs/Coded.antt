@@ -35,8 +35,8 @@ trees_again : (tree : PlainTree) (more : List (Option Triple)) (trees : List Pla
 trees_again (leaf n) more trees = refl
 trees_again (halves first second) more trees =
     ap (λ l. trees_of l trees) (append_assoc (marks first) (marks second ++ None ∷ []) more ∙ ap (λ l. marks first ++ l) (append_assoc (marks second) (None ∷ []) more))
-    ∙ trees_again first (marks second ++ (None ∷ more)) trees
-    ∙ trees_again second (None ∷ more) (first ∷ trees)
+    ∙ trees_again first (marks second ++ (None ∷ more)) trees ∙ trees_again second (None ∷ more) (first ∷ trees)
+
 -- so the tree of its marks is the tree again
 pub tree_again : (tree : PlainTree) → tree_of (marks tree) ≡ tree
 tree_again tree = ap tree_of (sym (append-nil (marks tree))) ∙ ap last_of (trees_again tree [] [])
