@@ -1,3 +1,4 @@
+pub mod Store
 pub mod Mapped
 pub mod Fans
 pub mod Ground
