@@ -190,7 +190,7 @@ fn raise_ring(fans: &mut Fans, id: u32, a: u32, b: u32, c: u32, key: u32)
     requires ring { IsRing fans.old.woven.sides id
         (record { first = a; second = b; third = c }) key }
     requires outside { (v : ℕ) → IsOutside id (spokes_at fans.old.woven.fans v) }
-    requires few { (v : ℕ) → length (spokes_at fans.old.woven.fans v) < 2 ^ 32 }
+    requires few { (v : ℕ) → length (spokes_at fans.old.woven.fans v) < 2 ^ 31 }
     ensures raised { HasRaised fans.old.woven fans.new.woven id
         (record { first = a; second = b; third = c }) }
     ensures kept { (fans.new.buried ≡ fans.old.buried) × (fans.new.seats ≡ fans.old.seats) }

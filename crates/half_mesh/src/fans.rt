@@ -144,7 +144,7 @@ impl Fans {
         requires live { IsSome (map.get self.old.woven.fans v) }
         requires room { 1 ≤ self.old.woven.room }
         requires newest { IsNewest face (spokes_at self.old.woven.fans v) }
-        requires few { length (spokes_at self.old.woven.fans v) < 2 ^ 32 }
+        requires few { length (spokes_at self.old.woven.fans v) < 2 ^ 31 }
         ensures fans { ChangesFan self.old self.new v
             (λ fan. with_spoke fan (record { face = face; to = to })) }
         ensures fresh { side_at self.old.woven.sides result ≡ None }
@@ -258,7 +258,7 @@ impl Fans {
     /// memory.
     pub(crate) fn relink(&mut self, v: u32, key: u32)
         requires can { CanRelink self.old.woven v key }
-        requires few { length (spokes_at self.old.woven.fans v) < 2 ^ 32 }
+        requires few { length (spokes_at self.old.woven.fans v) < 2 ^ 31 }
         ensures fans { (fan : Fan) (side : Side) → map.get self.old.woven.fans v ≡ Some fan →
             side_at self.old.woven.sides key ≡ Some side →
             self.new.woven.fans ≡ map.insert self.old.woven.fans v (with_side fan side) }
@@ -393,7 +393,7 @@ impl Fans {
 }
 
 /// How many of so many half-edges, linked from a key on, run to `v`.
-fn count_to(halves: &Halves, first: u32, count: usize, v: u32) -> usize
+fn count_to(halves: &Halves, first: u32, count: u32, v: u32) -> usize
     ensures { result ≡ length (spokes_to v (map_list spoke_of (walk halves.now count first))) }
 {
     let mut found: usize = 0;
@@ -413,7 +413,7 @@ fn count_to(halves: &Halves, first: u32, count: usize, v: u32) -> usize
 }
 
 /// How many of them run to `v` in faces older than one.
-fn count_older(halves: &Halves, first: u32, count: usize, v: u32, face: u32) -> usize
+fn count_older(halves: &Halves, first: u32, count: u32, v: u32, face: u32) -> usize
     ensures { result ≡ below face
         (faces_of (spokes_to v (map_list spoke_of (walk halves.now count first)))) }
 {
@@ -436,7 +436,7 @@ fn count_older(halves: &Halves, first: u32, count: usize, v: u32, face: u32) -> 
 }
 
 /// The face of the `nth` of them that runs to `v`.
-fn pick_to(halves: &Halves, first: u32, count: usize, v: u32, nth: usize) -> Option<u32>
+fn pick_to(halves: &Halves, first: u32, count: u32, v: u32, nth: usize) -> Option<u32>
     ensures { result ≡ slice_get
         (faces_of (spokes_to v (map_list spoke_of (walk halves.now count first)))) nth }
 {
@@ -460,7 +460,7 @@ fn pick_to(halves: &Halves, first: u32, count: usize, v: u32, nth: usize) -> Opt
 }
 
 /// Sets `into` to their faces, the last first.
-fn list(halves: &Halves, first: u32, count: usize, into: &mut Vec<FaceId>) -> Result<(), NoMemory>
+fn list(halves: &Halves, first: u32, count: u32, into: &mut Vec<FaceId>) -> Result<(), NoMemory>
     ensures ok { OnOk result
         (into.new.items ≡ reverse (faces_of (map_list spoke_of (walk halves.now count first)))) }
     ensures err { OnErr result (into.new.items ≡ []) }
@@ -471,7 +471,7 @@ fn list(halves: &Halves, first: u32, count: usize, into: &mut Vec<FaceId>) -> Re
 }
 
 /// Sets `into` to their faces, in order.
-fn gather(halves: &Halves, first: u32, count: usize, into: &mut Vec<FaceId>) -> Result<(), NoMemory>
+fn gather(halves: &Halves, first: u32, count: u32, into: &mut Vec<FaceId>) -> Result<(), NoMemory>
     ensures ok { OnOk result
         (into.new.items ≡ faces_of (map_list spoke_of (walk halves.now count first))) }
     ensures err { OnErr result (into.new.items ≡ []) }
@@ -499,7 +499,7 @@ fn put_linked(
     fans: &Fans,
     keys: &Rows<u32>,
     first: u32,
-    count: usize,
+    count: u32,
     v: VertexId,
     into: &mut Vec<VertexId>,
 ) -> Result<(), NoMemory>
@@ -533,9 +533,9 @@ fn join_half(halves: &mut Halves, key: u32, next: u32)
 
 /// Puts the half-edge at the key among so many that are linked from `first` on, and answers where they begin and how many
 /// they are.
-fn link(halves: &mut Halves, first: u32, count: usize, key: u32, half: Half) -> (u32, usize)
+fn link(halves: &mut Halves, first: u32, count: u32, key: u32, half: Half) -> (u32, u32)
     requires there { get halves.old key ≡ Some half }
-    requires few { count < 2 ^ 32 }
+    requires few { count < 2 ^ 31 }
     ensures { IsLinkedIn halves.old halves.new first count key half result }
 {
     let Some(newest) = halves.get(first).copied() else {
@@ -555,7 +555,7 @@ fn link(halves: &mut Halves, first: u32, count: usize, key: u32, half: Half) -> 
 }
 
 /// The last half-edge of a newer face among so many that are linked after one.
-fn newer(halves: &Halves, key: u32, half: Half, count: usize, face: u32) -> (u32, Half)
+fn newer(halves: &Halves, key: u32, half: Half, count: u32, face: u32) -> (u32, Half)
     ensures { result ≡ last_newer face (key, half) (walk halves.now count half.after) }
 {
     let mut at = key;
@@ -601,7 +601,7 @@ fn free_half(halves: &mut Halves, key: u32, face: u32)
 }
 
 /// The half-edge before the first of a face, among so many that are linked after one.
-fn before(halves: &Halves, key: u32, half: Half, count: usize, face: u32) -> Option<(u32, Half)>
+fn before(halves: &Halves, key: u32, half: Half, count: u32, face: u32) -> Option<(u32, Half)>
     ensures { result ≡ key_before face (key, half) (walk halves.now count half.after) }
 {
     let mut at = key;

@@ -14,5 +14,5 @@ pub(crate) struct Vertex {
 pub(crate) struct Row {
     pub(crate) vertex: Vertex,
     pub(crate) first: u32,
-    pub(crate) count: usize,
+    pub(crate) count: u32,
 }

@@ -488,7 +488,7 @@ fn put_ring(fans: &mut Fans, id: u32, a: u32, b: u32, c: u32) -> u32
     requires different { AreDifferent (record { first = a; second = b; third = c }) }
     requires live { HaveFans fans.old.woven.fans (record { first = a; second = b; third = c }) }
     requires newest { (v : ℕ) → IsNewest id (spokes_at fans.old.woven.fans v) }
-    requires few { (v : ℕ) → length (spokes_at fans.old.woven.fans v) < 2 ^ 32 }
+    requires few { (v : ℕ) → length (spokes_at fans.old.woven.fans v) < 2 ^ 31 }
     requires room { 3 ≤ fans.old.woven.room }
     ensures ring { HasRing fans.old.woven fans.new.woven id
         (record { first = a; second = b; third = c }) result }
