@@ -1,11 +1,11 @@
 -- Steps of a walk to the last half-edge of a newer face.
 use Rattle.std.proofs.Common.{◌≡◌, ℕ, ◌-◌, ◌<◌, true, false, cond, nat_lt, Some, None, ap, ◌∙◌}
-use Rattle.half_mesh.specs.Store.{Store, get}
+use Rattle.slab.specs.Slab.{Slab, get}
 use Rattle.half_mesh.specs.declared.halves.Half.{Half}
 use Rattle.half_mesh.specs.Walks.{KeyedHalf, walk, last_newer}
 use Rattle.half_mesh.proofs.Chains.{walk-next, walk-none}
 
-module _ (s : Store) (f n : ℕ) (e : KeyedHalf) where
+module _ (s : Slab Half) (f n : ℕ) (e : KeyedHalf) where
   newer-at : (next : Half) → 0 < n → get s e.1.after ≡ Some next → last_newer f e (walk s n e.1.after) ≡ cond (nat_lt f next.face) (last_newer f (e.1.after, next) (walk s (n - 1) next.after)) e
   newer-at next some there = ap (last_newer f e) (walk-next s n e.1.after next some there)
 

@@ -1,7 +1,7 @@
 -- A vertex among whose half-edges one is put back.
 use Rattle.std.proofs.Common.{◌≡◌, ◌≢◌, ⊎_elim, ℕ, ◌+◌, ◌-◌, ◌<◌, ◌≤◌, ◌^◌, Bool, true, false, cond, nat_lt, List, [], ◌∷◌, Option, Some, None, map, length, refl, sym, ap, subst, ◌∙◌, arith}
 use Rattle.std.proofs.lemmas.Bool.Decides.{nat_tests}
-use Rattle.half_mesh.specs.Store.{Store, get}
+use Rattle.slab.specs.Slab.{Slab, get}
 use Rattle.half_mesh.specs.declared.halves.Half.{Half}
 use Rattle.half_mesh.specs.declared.row.Row.{Row}
 use Rattle.half_mesh.specs.Fans.{Spoke, put_spoke, IsOutside}
@@ -11,8 +11,8 @@ use Rattle.half_mesh.proofs.ChainPut.{AreOut, chain-put}
 use Rattle.half_mesh.proofs.Fanned.{Stay, fan-fanned, walk-fanned}
 use Rattle.half_mesh.proofs.Detached.{headed, key_of_other}
 
--- the row of v in another store has one spoke more at its place, and the other vertices have theirs
-pub record IsRelinked (s t : Store) (v : ℕ) (row new : Row) (sp : Spoke) : Type 0 where
+-- the row of v in another slab has one spoke more at its place, and the other vertices have theirs
+pub record IsRelinked (s t : Slab Half) (v : ℕ) (row new : Row) (sp : Spoke) : Type 0 where
   pub fanned : IsFanned t v new
   pub fan : fan_of t new ≡ record { vertex = row.vertex; spokes = put_spoke sp (fan_of s row).spokes }
   pub others : (q : ℕ) → q ≢ v → Stay s t q
@@ -24,7 +24,7 @@ out_of : (f : ℕ) (es : List KeyedHalf) → IsOutside f (map spoke_of es) → A
 out_of f [] h = tt
 out_of f (e ∷ es) h = (h.0, out_of f es h.1)
 
-last_there : (s : Store) (v b f : ℕ) (e : KeyedHalf) (rest : List KeyedHalf) → IsChain s v b e.0 (e ∷ rest) → f < e.1.face
+last_there : (s : Slab Half) (v b f : ℕ) (e : KeyedHalf) (rest : List KeyedHalf) → IsChain s v b e.0 (e ∷ rest) → f < e.1.face
     → (get s (last_newer f e rest).0 ≡ Some (last_newer f e rest).1) × ((last_newer f e rest).1.origin ≡ v) × (f < (last_newer f e rest).1.face)
 last_there s v b f e [] c newer = (c.1, c.2, newer)
 last_there s v b f e (x ∷ rest) c newer =
@@ -35,7 +35,7 @@ last_there s v b f e (x ∷ rest) c newer =
     by_test later true u = let less : f < x.1.face = grind (arith, nat_tests) in later less
     by_test later false u = (c.1, c.2, newer)
 
-module _ (s t : Store) (v : ℕ) (row : Row) (key : ℕ) (h : Half) (f : IsFanned s v row) (held : get s key ≡ Some h) (of_v : h.origin ≡ v) (small : h.face < 2 ^ 32) where
+module _ (s t : Slab Half) (v : ℕ) (row : Row) (key : ℕ) (h : Half) (f : IsFanned s v row) (held : get s key ≡ Some h) (of_v : h.origin ≡ v) (small : h.face < 2 ^ 32) where
   abbrev sp : Spoke
   sp = record { face = h.face; to = h.to }
 

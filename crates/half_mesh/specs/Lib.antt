@@ -1,4 +1,3 @@
-pub mod Store
 pub mod Mapped
 pub mod Fans
 pub mod Ground

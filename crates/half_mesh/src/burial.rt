@@ -133,7 +133,7 @@ impl Tables {
     }
 }
 
-/// Takes the half-edges of the buried faces out. Takes no memory.
+/// Takes the half-edges of the buried faces out of the slab. Takes no memory.
 fn free_rings(fans: &mut Fans, keys: &Rows<u32>)
     requires { (f v : ℕ) → IsSome (map.get keys.now.buried f) →
         IsOutside f (spokes_at fans.old.woven.fans v) }
@@ -152,7 +152,7 @@ fn free_rings(fans: &mut Fans, keys: &Rows<u32>)
     }
 }
 
-/// Takes the three half-edges of a face, of which none is linked, out. The first stands at the key.
+/// Takes the three half-edges of a face, of which none is linked, out of the slab. The first stands at the key.
 pub(crate) fn free_ring(fans: &mut Fans, key: u32, f: u32)
     requires { (v : ℕ) → IsOutside f (spokes_at fans.old.woven.fans v) }
     ensures fans { fans.new.woven.fans ≡ fans.old.woven.fans }

@@ -6,7 +6,7 @@ ghost use Rattle.mesh_base.specs.Sides.{above};
 ghost use Rattle.half_mesh.specs.Fans.{Fan, Side, side_at, with_spoke, without_spoke, put_spoke, spokes_at, spokes_to, faces_of, bare_fan, IsNewest, IsOutside, CanRelink};
 ghost use Rattle.half_mesh.specs.FanChanges.{with_fans, with_side, ChangesFan, KeepsRest, KeepsSides, KeepsOtherSides, KeepsSidesOutside};
 ghost use Rattle.half_mesh.specs.Walks.{walk, spoke_of, side_of, key_before, last_newer, IsLinkedIn, Joins, Resets};
-ghost use Rattle.half_mesh.specs.Store.{get};
+ghost use Rattle.slab.specs.Slab.{get, slab_len};
 ghost use Rattle.half_mesh.specs.Across.{below};
 ghost use Rattle.half_mesh.specs.Tied.{origin_at, to_at, next_at, are_beside, HaveDifferentCorners};
 ghost use Rattle.mesh_base.specs.SideList.{AddsIdsAbove};
@@ -20,7 +20,7 @@ use mesh_base::{FaceId, VertexId};
 use std::alloc::Global;
 use std::marker::Model;
 
-/// The vertices, and for each the half-edges that leave it, by falling face, linked by keys.
+/// The vertices, and for each the half-edges that leave it, by falling face, linked through a slab.
 #[derive(Drop)]
 pub(crate) struct Fans {
     rows: Rows<Row>,
@@ -279,7 +279,7 @@ impl Fans {
         );
     }
 
-    /// Frees the key of a half-edge, if it is one of the face, of which none is linked. Takes no memory.
+    /// Takes the half-edge at the key out of the slab, if it is one of the face, of which none is linked. Takes no memory.
     pub(crate) fn free(&mut self, key: u32, face: u32)
         requires { (v : ℕ) → IsOutside face (spokes_at self.old.woven.fans v) }
         ensures fans { self.new.woven.fans ≡ self.old.woven.fans }
@@ -524,7 +524,8 @@ fn put_linked(
 /// Has another half-edge follow the one at the key in its face.
 fn join_half(halves: &mut Halves, key: u32, next: u32)
     ensures joins { Joins halves.old halves.new key next }
-    ensures room { halves.new.room ≡ halves.old.room }
+    ensures room { halves.new.capacity - slab_len halves.new ≡
+        halves.old.capacity - slab_len halves.old }
 {
     if let Some(half) = halves.get(key).copied() {
         halves.set(key, Half { next, ..half });
@@ -580,7 +581,8 @@ fn set_after(halves: &mut Halves, key: u32, after: u32)
     ensures resets { Resets halves.old halves.new key after }
     ensures sides { (k : ℕ) →
         option_map side_of (get halves.new k) ≡ option_map side_of (get halves.old k) }
-    ensures room { halves.new.room ≡ halves.old.room }
+    ensures room { halves.new.capacity - slab_len halves.new ≡
+        halves.old.capacity - slab_len halves.old }
 {
     if let Some(half) = halves.get(key).copied() {
         halves.set(key, Half { after, ..half });
@@ -591,7 +593,8 @@ fn set_after(halves: &mut Halves, key: u32, after: u32)
 fn free_half(halves: &mut Halves, key: u32, face: u32)
     ensures others { (k : ℕ) (h : Half) → get halves.old k ≡ Some h → h.face ≢ face →
         get halves.new k ≡ Some h }
-    ensures room { halves.old.room ≤ halves.new.room }
+    ensures room { halves.old.capacity - slab_len halves.old ≤
+        halves.new.capacity - slab_len halves.new }
 {
     if let Some(half) = halves.get(key).copied() {
         if half.face == face {

@@ -1,6 +1,6 @@
 use Rattle.std.proofs.Common.{◌≡◌, ◌&&◌, ◌||◌, Some, None, ◌-◌, nat_lt, map, refl, ap, sym, ◌∙◌}
 use Rattle.std.specs.FinMap as finite
-use Rattle.half_mesh.specs.Store.{get}
+use Rattle.slab.specs.Slab.{get}
 use Rattle.mesh_base.specs.SideList.{has_id, neighbours_in}
 use Rattle.mesh_base.proofs.NeighboursAbove.{found_more, found_all}
 use Rattle.half_mesh.specs.Fans.{faces_of}

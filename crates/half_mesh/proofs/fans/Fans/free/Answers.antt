@@ -1,6 +1,6 @@
 use Rattle.std.proofs.Common.{Some, refl, ap, sym, subst, ◌∙◌}
 use Rattle.std.specs.Option.{option_map}
-use Rattle.half_mesh.specs.Store.{get}
+use Rattle.slab.specs.Slab.{get}
 use Rattle.half_mesh.specs.Ground.{Ground}
 use Rattle.half_mesh.specs.Fans.{Side, IsOutside}
 use Rattle.half_mesh.specs.Walks.{side_of, fan_of, woven_of}

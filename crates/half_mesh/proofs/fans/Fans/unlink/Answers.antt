@@ -5,7 +5,7 @@ use Rattle.half_mesh.specs.Ground.{Ground}
 use Rattle.id_table.specs.Stock.{Stock}
 use Rattle.half_mesh.specs.declared.row.Row.{Row}
 use Rattle.half_mesh.proofs.SidesAt.{side_at-woven}
-use Rattle.half_mesh.specs.Store.{get}
+use Rattle.slab.specs.Slab.{get}
 use Rattle.half_mesh.specs.Fans.{Fan, without_spoke}
 use Rattle.half_mesh.specs.Walks.{woven_of}
 use Rattle.half_mesh.proofs.Mapped.{insert_same}
