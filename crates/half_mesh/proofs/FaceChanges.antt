@@ -141,7 +141,7 @@ have_fans w keys l nv nf m c view live = (
 pub newest-tied : (w : Woven) (keys : Keys) (l : Limits) (nv nf : ℕ) (m : Mesh) → woven_mesh w keys l nv nf ≡ m → ((f : ℕ) → IsLiveFace m f → f < m.next_face) → AreTied w keys → (v : ℕ) → IsNewest nf (spokes_at w.fans v)
 newest-tied w keys l nv nf m view below t v = subst (IsNewest nf) (sym (t.spokes v)) (falling_spokes-newest v nf (faces_in w.sides keys) (faces_below w keys l nv nf m view below))
 
-pub few-tied : (w : Woven) (keys : Keys) (l : Limits) (nv nf : ℕ) (m : Mesh) → woven_mesh w keys l nv nf ≡ m → finite.len m.faces ≤ FACES_MAX → AreTied w keys → (v : ℕ) → length (spokes_at w.fans v) < 2 ^ 32
+pub few-tied : (w : Woven) (keys : Keys) (l : Limits) (nv nf : ℕ) (m : Mesh) → woven_mesh w keys l nv nf ≡ m → finite.len m.faces ≤ FACES_MAX → AreTied w keys → (v : ℕ) → length (spokes_at w.fans v) < 2 ^ 31
 few-tied w keys l nv nf m view limit t v =
     let few = falling_spokes-few v (finite.entries (faces_in w.sides keys)) in
     let long = ap length (t.spokes v) in

@@ -11,7 +11,6 @@ pub mod TiedLaws
 pub mod Rings
 pub mod FaceChanges
 pub mod VertexChanges
-pub mod Copies
 pub mod GivenLists
 pub mod AcrossLaws
 pub mod Grounds

@@ -134,7 +134,7 @@ impl Tables {
 }
 
 /// Takes the half-edges of the buried faces out of the slab. Takes no memory.
-fn free_rings(fans: &mut Fans, keys: &Rows<usize>)
+fn free_rings(fans: &mut Fans, keys: &Rows<u32>)
     requires { (f v : ℕ) → IsSome (map.get keys.now.buried f) →
         IsOutside f (spokes_at fans.old.woven.fans v) }
     ensures fans { fans.new.woven.fans ≡ fans.old.woven.fans }
@@ -153,7 +153,7 @@ fn free_rings(fans: &mut Fans, keys: &Rows<usize>)
 }
 
 /// Takes the three half-edges of a face, of which none is linked, out of the slab. The first stands at the key.
-pub(crate) fn free_ring(fans: &mut Fans, key: usize, f: u32)
+pub(crate) fn free_ring(fans: &mut Fans, key: u32, f: u32)
     requires { (v : ℕ) → IsOutside f (spokes_at fans.old.woven.fans v) }
     ensures fans { fans.new.woven.fans ≡ fans.old.woven.fans }
     ensures sides { KeepsSidesOutside f fans.old.woven.sides fans.new.woven.sides }
@@ -184,13 +184,13 @@ pub(crate) fn bury_ring(fans: &mut Fans, id: u32, a: u32, b: u32, c: u32)
 
 /// Puts the three sides of a face, which stand in a ring from the key on, back among those that leave its corners. Takes no
 /// memory.
-fn raise_ring(fans: &mut Fans, id: u32, a: u32, b: u32, c: u32, key: usize)
+fn raise_ring(fans: &mut Fans, id: u32, a: u32, b: u32, c: u32, key: u32)
     requires different { AreDifferent (record { first = a; second = b; third = c }) }
     requires live { HaveFans fans.old.woven.fans (record { first = a; second = b; third = c }) }
     requires ring { IsRing fans.old.woven.sides id
         (record { first = a; second = b; third = c }) key }
     requires outside { (v : ℕ) → IsOutside id (spokes_at fans.old.woven.fans v) }
-    requires few { (v : ℕ) → length (spokes_at fans.old.woven.fans v) < 2 ^ 32 }
+    requires few { (v : ℕ) → length (spokes_at fans.old.woven.fans v) < 2 ^ 31 }
     ensures raised { HasRaised fans.old.woven fans.new.woven id
         (record { first = a; second = b; third = c }) }
     ensures kept { (fans.new.buried ≡ fans.old.buried) × (fans.new.seats ≡ fans.old.seats) }

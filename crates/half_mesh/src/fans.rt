@@ -11,13 +11,12 @@ ghost use Rattle.half_mesh.specs.Across.{below};
 ghost use Rattle.half_mesh.specs.Tied.{origin_at, to_at, next_at, are_beside, HaveDifferentCorners};
 ghost use Rattle.mesh_base.specs.SideList.{AddsIdsAbove};
 
-use crate::halves::Half;
+use crate::halves::{Half, Halves};
 use crate::row::{Row, Vertex};
 use crate::tables::put_corners_above;
 use grid_base::NoMemory;
 use id_table::Rows;
 use mesh_base::{FaceId, VertexId};
-use slab::Slab;
 use std::alloc::Global;
 use std::marker::Model;
 
@@ -25,7 +24,7 @@ use std::marker::Model;
 #[derive(Drop)]
 pub(crate) struct Fans {
     rows: Rows<Row>,
-    halves: Slab<Half>,
+    halves: Halves,
 }
 
 impl Model for Fans {
@@ -51,7 +50,7 @@ impl Fans {
     {
         Fans {
             rows: Rows::new(alloc),
-            halves: Slab::new(alloc),
+            halves: Halves::new(alloc),
         }
     }
 
@@ -63,7 +62,7 @@ impl Fans {
     {
         Ok(Fans {
             rows: self.rows.copy()?,
-            halves: self.halves.clone()?,
+            halves: self.halves.copy()?,
         })
     }
 
@@ -137,16 +136,15 @@ impl Fans {
         ensures kept { self.new ≡
             record self.old { woven = record self.old.woven { room = self.new.woven.room } } }
     {
-        self.halves.reserve(more)?;
-        Ok(())
+        self.halves.reserve(more)
     }
 
     /// Adds a half-edge that leaves `v`, in a face newer than all at `v`, and answers its key. Takes no memory.
-    pub(crate) fn attach(&mut self, v: u32, to: u32, face: u32, next: usize) -> usize
+    pub(crate) fn attach(&mut self, v: u32, to: u32, face: u32, next: u32) -> u32
         requires live { IsSome (map.get self.old.woven.fans v) }
         requires room { 1 ≤ self.old.woven.room }
         requires newest { IsNewest face (spokes_at self.old.woven.fans v) }
-        requires few { length (spokes_at self.old.woven.fans v) < 2 ^ 32 }
+        requires few { length (spokes_at self.old.woven.fans v) < 2 ^ 31 }
         ensures fans { ChangesFan self.old self.new v
             (λ fan. with_spoke fan (record { face = face; to = to })) }
         ensures fresh { side_at self.old.woven.sides result ≡ None }
@@ -157,7 +155,7 @@ impl Fans {
         ensures kept { KeepsRest self.old self.new }
     {
         let row = self.rows.get(v).unwrap();
-        let key = self.halves.insert_reserved(Half {
+        let key = self.halves.insert(Half {
             origin: v,
             to,
             face,
@@ -176,7 +174,7 @@ impl Fans {
     }
 
     /// Has another half-edge follow one in its face.
-    pub(crate) fn join(&mut self, key: usize, next: usize)
+    pub(crate) fn join(&mut self, key: u32, next: u32)
         ensures fans { self.new.woven.fans ≡ self.old.woven.fans }
         ensures side { (side : Side) → side_at self.old.woven.sides key ≡ Some side →
             side_at self.new.woven.sides key ≡ Some (record side { next = next }) }
@@ -258,9 +256,9 @@ impl Fans {
 
     /// Puts the half-edge at the key, which leaves `v`, among those that leave `v`, at the place of its face. Takes no
     /// memory.
-    pub(crate) fn relink(&mut self, v: u32, key: usize)
+    pub(crate) fn relink(&mut self, v: u32, key: u32)
         requires can { CanRelink self.old.woven v key }
-        requires few { length (spokes_at self.old.woven.fans v) < 2 ^ 32 }
+        requires few { length (spokes_at self.old.woven.fans v) < 2 ^ 31 }
         ensures fans { (fan : Fan) (side : Side) → map.get self.old.woven.fans v ≡ Some fan →
             side_at self.old.woven.sides key ≡ Some side →
             self.new.woven.fans ≡ map.insert self.old.woven.fans v (with_side fan side) }
@@ -282,7 +280,7 @@ impl Fans {
     }
 
     /// Takes the half-edge at the key out of the slab, if it is one of the face, of which none is linked. Takes no memory.
-    pub(crate) fn free(&mut self, key: usize, face: u32)
+    pub(crate) fn free(&mut self, key: u32, face: u32)
         requires { (v : ℕ) → IsOutside face (spokes_at self.old.woven.fans v) }
         ensures fans { self.new.woven.fans ≡ self.old.woven.fans }
         ensures sides { KeepsSidesOutside face self.old.woven.sides self.new.woven.sides }
@@ -312,7 +310,7 @@ impl Fans {
     }
 
     /// The half-edge at a key; where there is none, one that is 0 in each part.
-    pub(crate) fn side(&self, key: usize) -> Half
+    pub(crate) fn side(&self, key: u32) -> Half
         ensures origin { result.origin ≡ origin_at self.now.woven.sides key }
         ensures to { result.to ≡ to_at self.now.woven.sides key }
         ensures next { result.next ≡ next_at self.now.woven.sides key }
@@ -378,7 +376,7 @@ impl Fans {
     /// Puts the corners above `v` of the faces at `v` at the end of the list. The keys are those of the first sides of the live faces.
     pub(crate) fn put_neighbours(
         &self,
-        keys: &Rows<usize>,
+        keys: &Rows<u32>,
         v: VertexId,
         into: &mut Vec<VertexId>,
     ) -> Result<(), NoMemory>
@@ -395,7 +393,7 @@ impl Fans {
 }
 
 /// How many of so many half-edges, linked from a key on, run to `v`.
-fn count_to(halves: &Slab<Half>, first: usize, count: usize, v: u32) -> usize
+fn count_to(halves: &Halves, first: u32, count: u32, v: u32) -> usize
     ensures { result ≡ length (spokes_to v (map_list spoke_of (walk halves.now count first))) }
 {
     let mut found: usize = 0;
@@ -415,7 +413,7 @@ fn count_to(halves: &Slab<Half>, first: usize, count: usize, v: u32) -> usize
 }
 
 /// How many of them run to `v` in faces older than one.
-fn count_older(halves: &Slab<Half>, first: usize, count: usize, v: u32, face: u32) -> usize
+fn count_older(halves: &Halves, first: u32, count: u32, v: u32, face: u32) -> usize
     ensures { result ≡ below face
         (faces_of (spokes_to v (map_list spoke_of (walk halves.now count first)))) }
 {
@@ -438,7 +436,7 @@ fn count_older(halves: &Slab<Half>, first: usize, count: usize, v: u32, face: u3
 }
 
 /// The face of the `nth` of them that runs to `v`.
-fn pick_to(halves: &Slab<Half>, first: usize, count: usize, v: u32, nth: usize) -> Option<u32>
+fn pick_to(halves: &Halves, first: u32, count: u32, v: u32, nth: usize) -> Option<u32>
     ensures { result ≡ slice_get
         (faces_of (spokes_to v (map_list spoke_of (walk halves.now count first)))) nth }
 {
@@ -462,12 +460,7 @@ fn pick_to(halves: &Slab<Half>, first: usize, count: usize, v: u32, nth: usize) 
 }
 
 /// Sets `into` to their faces, the last first.
-fn list(
-    halves: &Slab<Half>,
-    first: usize,
-    count: usize,
-    into: &mut Vec<FaceId>,
-) -> Result<(), NoMemory>
+fn list(halves: &Halves, first: u32, count: u32, into: &mut Vec<FaceId>) -> Result<(), NoMemory>
     ensures ok { OnOk result
         (into.new.items ≡ reverse (faces_of (map_list spoke_of (walk halves.now count first)))) }
     ensures err { OnErr result (into.new.items ≡ []) }
@@ -478,12 +471,7 @@ fn list(
 }
 
 /// Sets `into` to their faces, in order.
-fn gather(
-    halves: &Slab<Half>,
-    first: usize,
-    count: usize,
-    into: &mut Vec<FaceId>,
-) -> Result<(), NoMemory>
+fn gather(halves: &Halves, first: u32, count: u32, into: &mut Vec<FaceId>) -> Result<(), NoMemory>
     ensures ok { OnOk result
         (into.new.items ≡ faces_of (map_list spoke_of (walk halves.now count first))) }
     ensures err { OnErr result (into.new.items ≡ []) }
@@ -507,11 +495,11 @@ fn gather(
 
 /// Puts the corners above `v` of the faces of so many half-edges, linked from a key on, at the end of the list.
 fn put_linked(
-    halves: &Slab<Half>,
+    halves: &Halves,
     fans: &Fans,
-    keys: &Rows<usize>,
-    first: usize,
-    count: usize,
+    keys: &Rows<u32>,
+    first: u32,
+    count: u32,
     v: VertexId,
     into: &mut Vec<VertexId>,
 ) -> Result<(), NoMemory>
@@ -534,27 +522,21 @@ fn put_linked(
 }
 
 /// Has another half-edge follow the one at the key in its face.
-fn join_half(halves: &mut Slab<Half>, key: usize, next: usize)
+fn join_half(halves: &mut Halves, key: u32, next: u32)
     ensures joins { Joins halves.old halves.new key next }
     ensures room { halves.new.capacity - slab_len halves.new ≡
         halves.old.capacity - slab_len halves.old }
 {
-    if let Some(half) = halves.get_mut(key) {
-        half.next = next;
+    if let Some(half) = halves.get(key).copied() {
+        halves.set(key, Half { next, ..half });
     }
 }
 
 /// Puts the half-edge at the key among so many that are linked from `first` on, and answers where they begin and how many
 /// they are.
-fn link(
-    halves: &mut Slab<Half>,
-    first: usize,
-    count: usize,
-    key: usize,
-    half: Half,
-) -> (usize, usize)
+fn link(halves: &mut Halves, first: u32, count: u32, key: u32, half: Half) -> (u32, u32)
     requires there { get halves.old key ≡ Some half }
-    requires few { count < 2 ^ 32 }
+    requires few { count < 2 ^ 31 }
     ensures { IsLinkedIn halves.old halves.new first count key half result }
 {
     let Some(newest) = halves.get(first).copied() else {
@@ -574,7 +556,7 @@ fn link(
 }
 
 /// The last half-edge of a newer face among so many that are linked after one.
-fn newer(halves: &Slab<Half>, key: usize, half: Half, count: usize, face: u32) -> (usize, Half)
+fn newer(halves: &Halves, key: u32, half: Half, count: u32, face: u32) -> (u32, Half)
     ensures { result ≡ last_newer face (key, half) (walk halves.now count half.after) }
 {
     let mut at = key;
@@ -595,20 +577,20 @@ fn newer(halves: &Slab<Half>, key: usize, half: Half, count: usize, face: u32) -
 }
 
 /// Has another half-edge follow the one at the key among those that leave its vertex.
-fn set_after(halves: &mut Slab<Half>, key: usize, after: usize)
+fn set_after(halves: &mut Halves, key: u32, after: u32)
     ensures resets { Resets halves.old halves.new key after }
     ensures sides { (k : ℕ) →
         option_map side_of (get halves.new k) ≡ option_map side_of (get halves.old k) }
     ensures room { halves.new.capacity - slab_len halves.new ≡
         halves.old.capacity - slab_len halves.old }
 {
-    if let Some(half) = halves.get_mut(key) {
-        half.after = after;
+    if let Some(half) = halves.get(key).copied() {
+        halves.set(key, Half { after, ..half });
     }
 }
 
 /// Takes the half-edge at the key out, if it is one of the face.
-fn free_half(halves: &mut Slab<Half>, key: usize, face: u32)
+fn free_half(halves: &mut Halves, key: u32, face: u32)
     ensures others { (k : ℕ) (h : Half) → get halves.old k ≡ Some h → h.face ≢ face →
         get halves.new k ≡ Some h }
     ensures room { halves.old.capacity - slab_len halves.old ≤
@@ -622,13 +604,7 @@ fn free_half(halves: &mut Slab<Half>, key: usize, face: u32)
 }
 
 /// The half-edge before the first of a face, among so many that are linked after one.
-fn before(
-    halves: &Slab<Half>,
-    key: usize,
-    half: Half,
-    count: usize,
-    face: u32,
-) -> Option<(usize, Half)>
+fn before(halves: &Halves, key: u32, half: Half, count: u32, face: u32) -> Option<(u32, Half)>
     ensures { result ≡ key_before face (key, half) (walk halves.now count half.after) }
 {
     let mut at = key;

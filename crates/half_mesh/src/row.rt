@@ -13,6 +13,6 @@ pub(crate) struct Vertex {
 #[derive(Clone, Copy)]
 pub(crate) struct Row {
     pub(crate) vertex: Vertex,
-    pub(crate) first: usize,
-    pub(crate) count: usize,
+    pub(crate) first: u32,
+    pub(crate) count: u32,
 }

@@ -35,7 +35,7 @@ const SPARE: usize = 8;
 pub(crate) struct Tables {
     pub(crate) fans: Fans,
     // For each face the key of its first side.
-    pub(crate) keys: Rows<usize>,
+    pub(crate) keys: Rows<u32>,
     pub(crate) next_vertex: u32,
     pub(crate) next_face: u32,
     limits: Limits,
@@ -484,11 +484,11 @@ fn side_from(c: &Corners, v: VertexId) -> u8
 }
 
 /// Makes the three sides of a face that is newer than all at its corners, and answers the key of the first.
-fn put_ring(fans: &mut Fans, id: u32, a: u32, b: u32, c: u32) -> usize
+fn put_ring(fans: &mut Fans, id: u32, a: u32, b: u32, c: u32) -> u32
     requires different { AreDifferent (record { first = a; second = b; third = c }) }
     requires live { HaveFans fans.old.woven.fans (record { first = a; second = b; third = c }) }
     requires newest { (v : ℕ) → IsNewest id (spokes_at fans.old.woven.fans v) }
-    requires few { (v : ℕ) → length (spokes_at fans.old.woven.fans v) < 2 ^ 32 }
+    requires few { (v : ℕ) → length (spokes_at fans.old.woven.fans v) < 2 ^ 31 }
     requires room { 3 ≤ fans.old.woven.room }
     ensures ring { HasRing fans.old.woven fans.new.woven id
         (record { first = a; second = b; third = c }) result }
@@ -503,7 +503,7 @@ fn put_ring(fans: &mut Fans, id: u32, a: u32, b: u32, c: u32) -> usize
 }
 
 /// The corners of the face whose first side stands at the key.
-pub(crate) fn corners_from(fans: &Fans, key: usize) -> (u32, u32, u32)
+pub(crate) fn corners_from(fans: &Fans, key: u32) -> (u32, u32, u32)
     ensures { record { first = result.0; second = result.1; third = result.2 } ≡
         corners_at fans.now.woven.sides key }
 {
@@ -515,7 +515,7 @@ pub(crate) fn corners_from(fans: &Fans, key: usize) -> (u32, u32, u32)
 /// Puts the corners of a live face that are above one of them at the end of the list.
 pub(crate) fn put_corners_above(
     fans: &Fans,
-    keys: &Rows<usize>,
+    keys: &Rows<u32>,
     f: u32,
     v: VertexId,
     into: &mut Vec<VertexId>,

@@ -39,7 +39,7 @@ relink-requires-2-clause-few c =
     let a1 = has-put_spoke w0.fans w1.fans c.args.a (record { face = c.args.id; to = c.args.b }) (λ fan is. c.relink.ensures.fans fan side1 is ring.at_first) live.0 in
     let side2 : Side = record { origin = c.args.b; to = c.args.c; face = c.args.id; next = ring.third } in
     let at2 : side_at w1.sides c.side-first.result.next ≡ Some side2 = c.relink.ensures.sides c.side-first.result.next ∙ ap (side_at w0.sides) key2 ∙ ring.at_second in
-    subst (λ ss. length ss < 2 ^ 32) (sym (a1.others c.args.b (λ same. d.first_second (sym same)))) (c.requires.few c.args.b)
+    subst (λ ss. length ss < 2 ^ 31) (sym (a1.others c.args.b (λ same. d.first_second (sym same)))) (c.requires.few c.args.b)
 
 pub relink-requires-3-clause-can : goal.relink-requires-3-clause-can
 relink-requires-3-clause-can c =
@@ -77,7 +77,7 @@ relink-requires-3-clause-few c =
     let a2 = has-put_spoke w1.fans w2.fans c.args.b (record { face = c.args.id; to = c.args.c }) (λ fan is. c.relink-2.ensures.fans fan side2 is at2) (a1.live c.args.b live.1) in
     let side3 : Side = record { origin = c.args.c; to = c.args.a; face = c.args.id; next = c.args.key } in
     let at3 : side_at w2.sides c.side-second.result.next ≡ Some side3 = c.relink-2.ensures.sides c.side-second.result.next ∙ c.relink.ensures.sides c.side-second.result.next ∙ ap (side_at w0.sides) key3 ∙ ring.at_third in
-    subst (λ ss. length ss < 2 ^ 32) (sym (a2.others c.args.c (λ same. d.second_third (sym same)) ∙ a1.others c.args.c d.third_first)) (c.requires.few c.args.c)
+    subst (λ ss. length ss < 2 ^ 31) (sym (a2.others c.args.c (λ same. d.second_third (sym same)) ∙ a1.others c.args.c d.third_first)) (c.requires.few c.args.c)
 
 pub returns-clause-raised : goal.returns-clause-raised
 returns-clause-raised c =
