@@ -1,5 +1,6 @@
 -- The collapses of its edges that take a whole component away, or the reason against it.
-use Rattle.std.specs.Prelude.{ℕ, ◌==◌, Bool, not, is_some, List, [], ◌∷◌, ◌++◌, length, map, Option, if◌then◌else◌}
+use Rattle.std.specs.Prelude.{ℕ, ◌==◌, Bool, nat_lt, is_some, List, [], ◌∷◌, ◌++◌, length, map, slice_get, Option, if◌then◌else◌}
+use Rattle.std.specs.Option.{option_map_or}
 use Rattle.std.specs.List.{flat_map, list_any}
 use Rattle.std.specs.FinMap as finite
 use Rattle.grid_decided.specs.Decided.{meets_exactly}
@@ -62,7 +63,7 @@ after_round depth vs m = after_each depth m (collapses_among m vs)
 
 -- whether it does something
 abbrev pub does_some : ℕ → List ℕ → Mesh → Bool
-does_some depth vs m = not (length (done_in_round depth vs m) == 0)
+does_some depth vs m = nat_lt 0 (length (done_in_round depth vs m))
 
 -- Rounds follow each other until one does nothing, and no more than the first list is long: what
 -- they do.
@@ -96,8 +97,8 @@ why_in (edit.Done change) = NoEdge
 
 -- the reason against the first of some edits
 abbrev pub first_why : ℕ → Mesh → List Asked → Why
-first_why depth m [] = NoEdge
-first_why depth m (what ∷ rest) = why_in (answer_at depth m what)
+first_why depth m asked =
+    option_map_or (λ what. why_in (answer_at depth m what)) (slice_get asked 0) NoEdge
 
 -- the reason against the first collapse that is left, where one of the vertices lives
 abbrev pub why_left : ℕ → List ℕ → Mesh → Option Why

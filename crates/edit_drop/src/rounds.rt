@@ -4,7 +4,7 @@ ghost use Rattle.grid_base.specs.declared.TheConstants.{DEPTH_MAX};
 ghost use Rattle.mesh_base.specs.Sides.{IsClosed};
 ghost use Rattle.mesh_base.specs.Placements.{IsClearMesh};
 ghost use Rattle.mesh_base.specs.Kept.{BeginsWith};
-ghost use Rattle.edit_drop.specs.Drop.{answer_at, after_one, if_done, after_each, done_of, after_round, done_in_round, does_some, after_rounds, done_in_rounds, first_why, why_left};
+ghost use Rattle.edit_drop.specs.Drop.{answer_at, after_one, if_done, after_each, done_of, after_round, done_in_round, does_some, after_rounds, done_in_rounds, why_in, first_why, why_left};
 
 use crate::collapses::{AskedEdits, any_live, collapses_among};
 use edit_any::edit;
@@ -12,6 +12,16 @@ use edit_base::{Asked, Edit, Why};
 use grid_base::{DEPTH_MAX, NoMemory};
 use mesh_base::Surface;
 use std::alloc::Global;
+
+// Puts an edit at the end of a list, if it is done.
+fn put_if_done(done: &mut AskedEdits, what: &Asked, answer: &Edit) -> Result<(), NoMemory>
+    ensures { OnOk result (done.new ≡ done.old ++ if_done what.now answer.now) }
+{
+    match answer {
+        Edit::Done(_change) => done.push(*what),
+        Edit::No(_why) => Ok(()),
+    }
+}
 
 // Tries an edit, which is put at the end of the list where it is done.
 fn try_one<S: Surface>(
@@ -32,10 +42,8 @@ fn try_one<S: Surface>(
     ensures marks { BeginsWith (S.kept mesh.new) (S.kept mesh.old) }
 {
     mesh.index();
-    match edit(alloc, mesh, depth, *what)? {
-        Edit::Done(_change) => done.push(*what),
-        Edit::No(_why) => Ok(()),
-    }
+    let answer = edit(alloc, mesh, depth, *what)?;
+    put_if_done(done, what, &answer)
 }
 
 // Tries edits, one after another.
@@ -107,11 +115,22 @@ pub(crate) fn try_rounds<S: Surface>(
     ensures marks { BeginsWith (S.kept mesh.new) (S.kept mesh.old) }
 {
     for _turn in vs {
-        if !try_round(alloc, mesh, depth, vs, done)? {
+        let some = try_round(alloc, mesh, depth, vs, done)?;
+        if !some {
             return Ok(());
         }
     }
     Ok(())
+}
+
+// The reason that an answer has.
+fn why_in(answer: Edit) -> Why
+    ensures { result ≡ why_in answer }
+{
+    match answer {
+        Edit::Done(_change) => Why::NoEdge,
+        Edit::No(why) => why,
+    }
 }
 
 // The reason against the first of some edits.
@@ -130,10 +149,8 @@ fn first_why<S: Surface>(
     let Some(what) = asked.first() else {
         return Ok(Why::NoEdge);
     };
-    match edit(alloc, mesh, depth, *what)? {
-        Edit::Done(_change) => Ok(Why::NoEdge),
-        Edit::No(why) => Ok(why),
-    }
+    let answer = edit(alloc, mesh, depth, *what)?;
+    Ok(why_in(answer))
 }
 
 /// The reason against the first collapse that is left, where one of the vertices lives.

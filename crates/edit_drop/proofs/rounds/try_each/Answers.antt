@@ -1,7 +1,7 @@
 use Rattle.std.proofs.Common.{◌≤◌, ◌++◌, length, refl, arith}
 use Rattle.mesh_base.proofs.MarksHold.{begins_itself, begins_along}
 use Rattle.edit_drop.specs.Drop.{after_each, done_of}
-use Rattle.edit_drop.proofs.Rounds.{one_more, one_more_done, all_tried, all_done}
+use Rattle.edit_drop.proofs.Tries.{one_more, one_more_done, all_tried, all_done}
 use Rattle.edit_drop.proofs.rounds.try_each.Goals as goal
 
 pub loop-what-init : goal.loop-what-init
