@@ -6,7 +6,7 @@ use Rattle.mesh_base.specs.Mesh.{Mesh}
 use Rattle.edit_base.specs.declared.Asked.{Asked}
 use Rattle.edit_base.specs.declared.Edit.{Edit}
 use Rattle.edit_base.specs.declared.Edit.TheVariants.{Done, No}
-use Rattle.edit_drop.specs.Drop.{answer_at, after_one, if_done, after_each, done_of, after_round, done_in_round, does_some, after_rounds, done_in_rounds}
+use Rattle.edit_drop.specs.Drop.{collapses_from, collapses_among, answer_at, after_one, if_done, after_each, done_of, after_round, done_in_round, does_some, after_rounds, done_in_rounds}
 
 -- the next of a list, and then the others
 pub next_one : {X : Type 0} (items : List X) (i : ℕ) (e : X) → i < length items → e ≡ get_or items i e → drop i items ≡ e ∷ drop (i + 1) items
@@ -15,6 +15,15 @@ next_one items i e inside at = drop-cons items i e inside ∙ ap (λ t. t ∷ dr
 -- none is left
 pub none_left : {X : Type 0} (items : List X) (i : ℕ) → length items ≤ i → drop i items ≡ []
 none_left items i over = drop_of_length-le items over
+
+-- ---- the collapses of edges from some vertices
+module _ (m : Mesh) (vs : List ℕ) (i v : ℕ) (inside : i < length vs) (is : v ≡ get_or vs i v) where
+  pub more_collapses : (total all more : List Asked) → more ≡ all ++ collapses_from m v → all ++ collapses_among m (drop i vs) ≡ total → more ++ collapses_among m (drop (i + 1) vs) ≡ total
+  more_collapses total all more adds before =
+      ap (λ (l : List Asked). l ++ collapses_among m (drop (i + 1) vs)) adds
+      ∙ append_assoc all (collapses_from m v) (collapses_among m (drop (i + 1) vs))
+      ∙ ap (λ (l : List ℕ). all ++ collapses_among m l) (sym (next_one vs i v inside is))
+      ∙ before
 
 -- ---- edits
 module _ (depth : ℕ) (m : Mesh) (asked : List Asked) (i : ℕ) where
@@ -46,11 +55,11 @@ module _ (depth : ℕ) (m : Mesh) (asked : List Asked) (i : ℕ) where
 
 -- ---- rounds
 module _ (depth : ℕ) (m : Mesh) (vs : List ℕ) (i : ℕ) where
-  module _ (turn : ℕ) (inside : i < length vs) (is : turn ≡ get_or vs i turn) (next : Mesh) (e : next ≡ after_round depth vs m) where
-    these : drop i vs ≡ turn ∷ drop (i + 1) vs
-    these = next_one vs i turn inside is
+  module _ (inside : i < length vs) (next : Mesh) (e : next ≡ after_round depth vs m) where
+    these : drop i vs ≡ get_or vs i 0 ∷ drop (i + 1) vs
+    these = drop-cons vs i 0 inside ∙ ap (λ n. get_or vs i 0 ∷ drop n vs) (sym (add-one i))
 
-    rest : (some : Bool) → Mesh
+    abbrev rest : Bool → Mesh
     rest some = cond some (after_rounds (drop (i + 1) vs) depth vs (after_round depth vs m)) (after_round depth vs m)
 
     pub round_more : (end : Mesh) → does_some depth vs m ≡ true → after_rounds (drop i vs) depth vs m ≡ end → after_rounds (drop (i + 1) vs) depth vs next ≡ end
@@ -59,7 +68,7 @@ module _ (depth : ℕ) (m : Mesh) (vs : List ℕ) (i : ℕ) where
     pub round_last : (end : Mesh) → does_some depth vs m ≡ false → after_rounds (drop i vs) depth vs m ≡ end → next ≡ end
     round_last end none before = e ∙ ap rest (sym none) ∙ ap (λ (l : List ℕ). after_rounds l depth vs m) (sym these) ∙ before
 
-    then : (some : Bool) → List Asked
+    abbrev then : Bool → List Asked
     then some = cond some (done_in_rounds (drop (i + 1) vs) depth vs (after_round depth vs m)) []
 
     pub done_more : (all done more : List Asked) → more ≡ done ++ done_in_round depth vs m → does_some depth vs m ≡ true

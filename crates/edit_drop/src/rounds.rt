@@ -1,5 +1,5 @@
 //! Rounds of collapses over the edges of some vertices.
-ghost use Rattle.std.specs.Prelude.{◌≡◌, ◌≤◌, ◌++◌, IfOk, OnOk};
+ghost use Rattle.std.specs.Prelude.{◌≡◌, ◌≤◌, ◌++◌, slice_get, IfOk, OnOk};
 ghost use Rattle.grid_base.specs.declared.TheConstants.{DEPTH_MAX};
 ghost use Rattle.mesh_base.specs.Sides.{IsClosed};
 ghost use Rattle.mesh_base.specs.Placements.{IsClearMesh};
@@ -123,6 +123,16 @@ pub(crate) fn try_rounds<S: Surface>(
     Ok(())
 }
 
+// The first of some edits.
+fn first_of(asked: &[Asked]) -> Option<Asked>
+    ensures { result ≡ slice_get asked.now 0 }
+{
+    match asked.first() {
+        Some(what) => Some(*what),
+        None => None,
+    }
+}
+
 // The reason that an answer has.
 fn why_in(answer: Edit) -> Why
     ensures { result ≡ why_in answer }
@@ -146,10 +156,10 @@ fn first_why<S: Surface>(
     ensures why { IfOk result (λ why. why ≡ first_why depth (S.mesh mesh.old) asked.now) }
     ensures marks { BeginsWith (S.kept mesh.new) (S.kept mesh.old) }
 {
-    let Some(what) = asked.first() else {
+    let Some(what) = first_of(asked) else {
         return Ok(Why::NoEdge);
     };
-    let answer = edit(alloc, mesh, depth, *what)?;
+    let answer = edit(alloc, mesh, depth, what)?;
     Ok(why_in(answer))
 }
 

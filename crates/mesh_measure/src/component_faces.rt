@@ -1,5 +1,5 @@
 //! The faces and the vertices of a component.
-ghost use Rattle.std.specs.Prelude.{◌≡◌, ◌++◌, ◌↔◌, ℕ, true, IfOk, OnOk};
+ghost use Rattle.std.specs.Prelude.{◌≡◌, ◌++◌, ◌↔◌, ℕ, true, slice_get, IfOk, OnOk};
 ghost use Rattle.std.specs.HashSet.{IsEmpty};
 ghost use Rattle.std.specs.List.{flat_map};
 ghost use Rattle.std.specs.FinMap as map;
@@ -123,6 +123,16 @@ fn vertices_with<S: Surface>(
     vertices_of(alloc, mesh, faces.as_slice())
 }
 
+// The first of some faces.
+fn first_of(faces: &[FaceId]) -> Option<FaceId>
+    ensures { result ≡ slice_get faces.now 0 }
+{
+    match faces.first() {
+        Some(f) => Some(*f),
+        None => None,
+    }
+}
+
 /// The vertices of the component of a vertex, by rising id: those of all faces to which faces lead from it. None where it has no face. Takes
 /// time in proportion to these faces and the logarithm of their number, as far as the calls of the mesh do.
 pub fn component_vertices<S: Surface>(
@@ -134,8 +144,8 @@ pub fn component_vertices<S: Surface>(
 {
     let mut star = Vec::new(alloc);
     mesh.faces_at(v, &mut star)?;
-    match star.first() {
+    match first_of(star.as_slice()) {
         None => Ok(Vec::new(alloc)),
-        Some(f) => vertices_with(alloc, mesh, *f, v),
+        Some(f) => vertices_with(alloc, mesh, f, v),
     }
 }

@@ -1,5 +1,5 @@
 -- What came of a dropped component: all of its vertices are gone, or all is as it was.
-use Rattle.std.proofs.Common.{◌≡◌, ◌≢◌, ℕ, zero, suc, Bool, true, false, cond, not, ◌&&◌, ◌||◌, nat_lt, is_some, List, [], ◌∷◌, ◌++◌, Option, Some, None, Ok, refl, sym, ap, subst, ◌∙◌}
+use Rattle.std.proofs.Common.{◌≡◌, ◌≢◌, ℕ, zero, suc, Bool, true, false, cond, not, ◌&&◌, ◌||◌, nat_lt, is_some, List, [], ◌∷◌, ◌++◌, Option, Some, None, Result, Ok, Err, IfOk, refl, sym, ap, subst, ◌∙◌}
 use Rattle.std.proofs.lemmas.Bool.{false≢true}
 use Rattle.std.specs.List.{filter, list_any}
 use Rattle.grid_decided.specs.Decided.{meets_exactly}
@@ -18,6 +18,7 @@ use Rattle.edit_drop.specs.Laws.{is_done, AreDone, NoneIsLeft, CollapsesAreDoneA
 use Rattle.edit_drop.proofs.Again.{none_is_left, done_again}
 use Rattle.log_text.specs.declared.LogLine.{LogLine}
 use Rattle.mesh_measure.specs.Components.{component_vertices}
+use Rattle.outside_io.specs.declared.stop.Stop.{Stop}
 use Rattle.pass_run.specs.Edits.{edit_rules, is_no, answers_from}
 use Rattle.pass_run.specs.PassLines.{PassRules, line_of, is_refused, refused_in, ends, lines_from, mesh_after_all}
 use Rattle.track_engine.specs.State.{State}
@@ -25,7 +26,7 @@ use Rattle.track_engine.specs.Parts.{Writes}
 use Rattle.track_engine.specs.Effects.{Effect, Proceeds, opened, kept_whole, edited_lines, edited_mesh, edited_answers, after_edits}
 use Rattle.track_held.specs.declared.given_edits.ToldAnswer.{ToldAnswer}
 use Rattle.track_held.specs.Editing.{answer_told, change_told, why_told, reason_at}
-use Rattle.track_held.specs.Folding.{is_refused as any_refused, crowded_after, are_clean, last_told, unless_crowded, group_told, group_effect, unless_why, told_unless_why}
+use Rattle.track_held.specs.Folding.{untold, is_refused as any_refused, crowded_after, are_clean, last_told, unless_crowded, group_told, group_effect, unless_why, told_unless_why}
 use Rattle.track_held.specs.Dropping.{drop_effect, drop_told}
 use Rattle.track_held.proofs.Grouped.{Text, done_state}
 
@@ -174,3 +175,12 @@ module _ (v : ℕ) (s : State) where
 
     pub asked_tells_drop : group_told asked v (opened now) ≡ drop_told v s
     asked_tells_drop = ap (λ (l : List Asked). group_told l v (opened now)) found ∙ ap (λ (u : State). group_told (drop_collapses s.set.depth s.mesh v) v (opened u)) same ∙ drop_tells_group none
+
+  -- what a call that writes so and tells so says of the vertices, and of the state
+  pub gone_by : (t : State) (old new : Text) (r : Result ToldAnswer Stop) → Writes (drop_effect v s) t old new (untold r) → IfOk r (λ told. told ≡ drop_told v s) → IfOk r (λ told. told.why ≡ 0 → any_live t.mesh (component_vertices s.mesh v) ≡ false)
+  gone_by t old new (Ok told) writes is = λ zero. drop_gone v s t old new writes (sym (ap (λ (x : ToldAnswer). x.why) is) ∙ zero)
+  gone_by t old new (Err stop) writes is = tt
+
+  pub left_by : (t : State) (old new : Text) (r : Result ToldAnswer Stop) → Writes (drop_effect v s) t old new (untold r) → IfOk r (λ told. told ≡ drop_told v s) → IfOk r (λ told. told.why ≢ 0 → t ≡ s)
+  left_by t old new (Ok told) writes is = λ not. drop_left v s t old new writes (λ zero. not (ap (λ (x : ToldAnswer). x.why) is ∙ zero))
+  left_by t old new (Err stop) writes is = tt

@@ -6,11 +6,11 @@ use Rattle.edit_drop.specs.Drop.{after_rounds, done_in_rounds}
 use Rattle.edit_drop.proofs.rounds.try_rounds.Given as goal
 
 -- the rounds so far and those to come are all
-abbrev pub invariant-loop-_turn : goal.invariant-loop-_turn
-invariant-loop-_turn g l =
+abbrev pub invariant-loop-turn : goal.invariant-loop-turn
+invariant-loop-turn g l =
     let now = g.S.Surface.mesh l.mesh in
     let first = g.S.Surface.mesh l.fn.mesh in
-    let turns = drop l._turn-index l.vs in
+    let turns = drop l.turn-index l.vs in
     record {
       mesh : after_rounds turns l.depth l.vs now ≡ after_rounds l.vs l.depth l.vs first;
       done : l.done ++ done_in_rounds turns l.depth l.vs now ≡ l.fn.done ++ done_in_rounds l.vs l.depth l.vs first;

@@ -1,4 +1,4 @@
-use Rattle.std.proofs.Common.{◌≡◌, ℕ, List, [], ◌∷◌, Some, sym, ap, subst, ◌∙◌}
+use Rattle.std.proofs.Common.{◌≡◌, ◌==◌, ℕ, List, [], ◌∷◌, Some, sym, ap, subst, ◌∙◌}
 use Rattle.std.specs.Prelude.{slice_get}
 use Rattle.mesh_base.specs.Sides.{has_corner, faces_at}
 use Rattle.edit_base.specs.Classes.{is_one_of}
@@ -15,4 +15,17 @@ first_has (x ∷ xs) f is = let same : x ≡ f = cc in subst (λ y. Has (x ∷ x
 
 pub vertices_with-requires-clause-live : goal.vertices_with-requires-clause-live
 vertices_with-requires-clause-live g c =
-    let m = g.S.Surface.mesh c.args.mesh.now in ?
+    let m = g.S.Surface.mesh c.args.mesh.now in
+    let v = c.args.v in
+    let f = c.in-Some.f in
+    let is : slice_get (faces_at m v) 0 ≡ Some f = ap (λ xs. slice_get xs 0) (sym (c.as_slice.ensures.value ∙ c.in_ok-faces_at.ensures.ok)) ∙ sym c.in-Some.ensures in
+    let at = listed_passes m (λ c. has_corner c v) f (first_has (faces_at m v) f is) in
+    there_key m f (corners_at m f) at.0
+
+pub vertices_with-requires-clause-corner : goal.vertices_with-requires-clause-corner
+vertices_with-requires-clause-corner g c =
+    let m = g.S.Surface.mesh c.args.mesh.now in
+    let v = c.args.v in
+    let f = c.in-Some.f in
+    let is : slice_get (faces_at m v) 0 ≡ Some f = ap (λ xs. slice_get xs 0) (sym (c.as_slice.ensures.value ∙ c.in_ok-faces_at.ensures.ok)) ∙ sym c.in-Some.ensures in
+    (listed_passes m (λ c. has_corner c v) f (first_has (faces_at m v) f is)).1

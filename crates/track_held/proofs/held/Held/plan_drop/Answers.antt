@@ -1,4 +1,6 @@
+use Rattle.std.proofs.Common.{refl}
 use Rattle.track_held.proofs.MeshLeft.{state_left, ready_left}
+use Rattle.track_held.specs.Held.{engine_in}
 use Rattle.track_held.proofs.held.Held.plan_drop.Goals as goal
 
 pub drop_collapses-requires-clause-closed : goal.drop_collapses-requires-clause-closed
