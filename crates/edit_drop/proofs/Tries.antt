@@ -12,17 +12,20 @@ use Rattle.edit_drop.specs.Drop.{collapses_from, collapses_among, answer_at, aft
 pub next_one : {X : Type 0} (items : List X) (i : ℕ) (e : X) → i < length items → e ≡ get_or items i e → drop i items ≡ e ∷ drop (i + 1) items
 next_one items i e inside at = drop-cons items i e inside ∙ ap (λ t. t ∷ drop (suc i) items) (sym at) ∙ ap (λ n. e ∷ drop n items) (sym (add-one i))
 
+pub next_number : (vs : List ℕ) (i : ℕ) → i < length vs → drop i vs ≡ get_or vs i 0 ∷ drop (i + 1) vs
+next_number vs i inside = drop-cons vs i 0 inside ∙ ap (λ n. get_or vs i 0 ∷ drop n vs) (sym (add-one i))
+
 -- none is left
 pub none_left : {X : Type 0} (items : List X) (i : ℕ) → length items ≤ i → drop i items ≡ []
 none_left items i over = drop_of_length-le items over
 
 -- ---- the collapses of edges from some vertices
-module _ (m : Mesh) (vs : List ℕ) (i v : ℕ) (inside : i < length vs) (is : v ≡ get_or vs i v) where
-  pub more_collapses : (total all more : List Asked) → more ≡ all ++ collapses_from m v → all ++ collapses_among m (drop i vs) ≡ total → more ++ collapses_among m (drop (i + 1) vs) ≡ total
+module _ (m : Mesh) (vs : List ℕ) (i : ℕ) (inside : i < length vs) where
+  pub more_collapses : (total all more : List Asked) → more ≡ all ++ collapses_from m (get_or vs i 0) → all ++ collapses_among m (drop i vs) ≡ total → more ++ collapses_among m (drop (i + 1) vs) ≡ total
   more_collapses total all more adds before =
       ap (λ (l : List Asked). l ++ collapses_among m (drop (i + 1) vs)) adds
-      ∙ append_assoc all (collapses_from m v) (collapses_among m (drop (i + 1) vs))
-      ∙ ap (λ (l : List ℕ). all ++ collapses_among m l) (sym (next_one vs i v inside is))
+      ∙ append_assoc all (collapses_from m (get_or vs i 0)) (collapses_among m (drop (i + 1) vs))
+      ∙ ap (λ (l : List ℕ). all ++ collapses_among m l) (sym (next_number vs i inside))
       ∙ before
 
 -- ---- edits
@@ -57,7 +60,7 @@ module _ (depth : ℕ) (m : Mesh) (asked : List Asked) (i : ℕ) where
 module _ (depth : ℕ) (m : Mesh) (vs : List ℕ) (i : ℕ) where
   module _ (inside : i < length vs) (next : Mesh) (e : next ≡ after_round depth vs m) where
     these : drop i vs ≡ get_or vs i 0 ∷ drop (i + 1) vs
-    these = drop-cons vs i 0 inside ∙ ap (λ n. get_or vs i 0 ∷ drop n vs) (sym (add-one i))
+    these = next_number vs i inside
 
     abbrev rest : Bool → Mesh
     rest some = cond some (after_rounds (drop (i + 1) vs) depth vs (after_round depth vs m)) (after_round depth vs m)

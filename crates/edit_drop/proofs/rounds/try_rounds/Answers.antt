@@ -21,7 +21,7 @@ loop-turn-preserved g c =
     let vs = c.args.vs.now in
     let m = mesh c.loop-turn.mesh in
     let next = mesh c.try_round.new.mesh in
-    let i = c.loop-turn.turn-index in
+    let i = c.loop-turn._turn-index in
     let said = c.in_ok-some.ensures in
     let inside = c.loop-turn-test.true in
     let some : does_some depth vs m ≡ true = sym said.some ∙ c.if-not-some.false in
@@ -36,14 +36,14 @@ loop-turn-preserved g c =
 pub returns-clause-mesh : goal.returns-clause-mesh
 returns-clause-mesh g c =
     let mesh = g.S.Surface.mesh in
-    let end : length c.args.vs.now ≤ c.loop-turn.turn-index = omega (arith, c.loop-turn-test.false) in
-    all_rounds c.args.depth (mesh c.loop-turn.mesh) c.args.vs.now c.loop-turn.turn-index end (after_rounds c.args.vs.now c.args.depth c.args.vs.now (mesh c.args.mesh.now)) c.loop-turn.invariant.mesh
+    let end : length c.args.vs.now ≤ c.loop-turn._turn-index = omega (arith, c.loop-turn-test.false) in
+    all_rounds c.args.depth (mesh c.loop-turn.mesh) c.args.vs.now c.loop-turn._turn-index end (after_rounds c.args.vs.now c.args.depth c.args.vs.now (mesh c.args.mesh.now)) c.loop-turn.invariant.mesh
 
 pub returns-clause-done : goal.returns-clause-done
 returns-clause-done g c =
     let mesh = g.S.Surface.mesh in
-    let end : length c.args.vs.now ≤ c.loop-turn.turn-index = omega (arith, c.loop-turn-test.false) in
-    all_rounds_done c.args.depth (mesh c.loop-turn.mesh) c.args.vs.now c.loop-turn.turn-index end (c.args.done.now ++ done_in_rounds c.args.vs.now c.args.depth c.args.vs.now (mesh c.args.mesh.now)) c.loop-turn.done c.loop-turn.invariant.done
+    let end : length c.args.vs.now ≤ c.loop-turn._turn-index = omega (arith, c.loop-turn-test.false) in
+    all_rounds_done c.args.depth (mesh c.loop-turn.mesh) c.args.vs.now c.loop-turn._turn-index end (c.args.done.now ++ done_in_rounds c.args.vs.now c.args.depth c.args.vs.now (mesh c.args.mesh.now)) c.loop-turn.done c.loop-turn.invariant.done
 
 pub returns-then-not-some-clause-mesh : goal.returns-then-not-some-clause-mesh
 returns-then-not-some-clause-mesh g c =
@@ -53,7 +53,7 @@ returns-then-not-some-clause-mesh g c =
     let m = mesh c.loop-turn.mesh in
     let said = c.in_ok-some.ensures in
     let none : does_some depth vs m ≡ false = sym said.some ∙ c.if-not-some.true in
-    round_last depth m vs c.loop-turn.turn-index c.loop-turn-test.true (mesh c.try_round.new.mesh) said.mesh (after_rounds vs depth vs (mesh c.args.mesh.now)) none c.loop-turn.invariant.mesh
+    round_last depth m vs c.loop-turn._turn-index c.loop-turn-test.true (mesh c.try_round.new.mesh) said.mesh (after_rounds vs depth vs (mesh c.args.mesh.now)) none c.loop-turn.invariant.mesh
 
 pub returns-then-not-some-clause-done : goal.returns-then-not-some-clause-done
 returns-then-not-some-clause-done g c =
@@ -63,7 +63,7 @@ returns-then-not-some-clause-done g c =
     let m = mesh c.loop-turn.mesh in
     let said = c.in_ok-some.ensures in
     let none : does_some depth vs m ≡ false = sym said.some ∙ c.if-not-some.true in
-    done_last depth m vs c.loop-turn.turn-index c.loop-turn-test.true (mesh c.try_round.new.mesh) said.mesh (c.args.done.now ++ done_in_rounds vs depth vs (mesh c.args.mesh.now)) c.loop-turn.done c.try_round.new.done said.done none c.loop-turn.invariant.done
+    done_last depth m vs c.loop-turn._turn-index c.loop-turn-test.true (mesh c.try_round.new.mesh) said.mesh (c.args.done.now ++ done_in_rounds vs depth vs (mesh c.args.mesh.now)) c.loop-turn.done c.try_round.new.done said.done none c.loop-turn.invariant.done
 
 pub try_round-requires-clause-closed : goal.try_round-requires-clause-closed
 try_round-requires-clause-closed g c = c.loop-turn.invariant.closed

@@ -10,7 +10,7 @@ abbrev pub invariant-loop-turn : goal.invariant-loop-turn
 invariant-loop-turn g l =
     let now = g.S.Surface.mesh l.mesh in
     let first = g.S.Surface.mesh l.fn.mesh in
-    let turns = drop l.turn-index l.vs in
+    let turns = drop l._turn-index l.vs in
     record {
       mesh : after_rounds turns l.depth l.vs now ≡ after_rounds l.vs l.depth l.vs first;
       done : l.done ++ done_in_rounds turns l.depth l.vs now ≡ l.fn.done ++ done_in_rounds l.vs l.depth l.vs first;

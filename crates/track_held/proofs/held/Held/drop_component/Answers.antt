@@ -61,8 +61,7 @@ returns-in-Ok-Some-clause-tells g c =
     let kept = g.S.Surface.kept in
     let v = c.args.v in
     let s = state_in mesh kept (engine_in c.args.self.now) in
-    let some : drop_why s.set.depth s.mesh v ≡ Some c.in-Ok-Some.why = (let e = c.in-Ok-Some.ensures.why in let f = c.in-Ok-Some.field-0-is in let a = c.in-Ok-Some.why-is in cc) in
-    (
+    let some : drop_why s.set.depth s.mesh v ≡ Some c.in-Ok-Some.why = (let e = c.in-Ok-Some.ensures.why in let f = c.in-Ok-Some.field-0-is in let a = c.in-Ok-Some.why-is in cc) in (
       [],
       sym (no_drop_is_nothing v s c.in-Ok-Some.why some) ∙ ap (λ (u : State). Proceeds [] u) (sym c.plan_drop.ensures.state),
       c.plan_drop.ensures.log ∙ sym (appended-nil (log_in c.args.self.now)),
