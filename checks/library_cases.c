@@ -743,6 +743,53 @@ static void folds_closed(void)
     topo_free(&t);
 }
 
+/* whether the component of a vertex stays, for this reason, and no line is told */
+static uint32_t stays(uint32_t v, uint32_t why)
+{
+    struct topo_answered came = {77, 77, 77, 77, 77, 77, 77};
+    return topo_drop(&t, v, &came) == TOPO_DONE && came.why == why && tells("");
+}
+
+static void components_dropped(void)
+{
+    /* a tetrahedron within another, and a third apart */
+    static const struct topo_point points[] = {{0, 0, 0}, {400, 0, 0}, {0, 400, 0}, {0, 0, 400}, {50, 50, 50}, {80, 50, 50}, {50, 80, 50}, {50, 50, 80},
+        {900, 0, 0}, {940, 0, 0}, {900, 40, 0}, {900, 0, 40}};
+    static const struct topo_triangle faces[] = {{1, 3, 2}, {1, 2, 4}, {2, 3, 4}, {1, 4, 3}, {5, 7, 6}, {5, 6, 8}, {6, 7, 8}, {5, 8, 7}, {9, 11, 10}, {9, 10, 12}, {10, 11, 12}, {9, 12, 11}};
+    static const struct topo_asked first = {TOPO_COLLAPSED, 1, 2, 0, 0};
+    struct topo_answered came = {77, 77, 77, 77, 77, 77, 77}, hit;
+    size_t taken;
+    is("no tracker has components", topo_drop(&t, 1, &came), TOPO_EMPTY);
+    is("three bodies", topo_new(points, 12, faces, 12, &t, &fault), TOPO_DONE);
+    is("an id that is none", topo_drop(&t, 0, &came), TOPO_RANGE);
+    is("tells nothing", came.why, 77);
+    is("a vertex that is not there has no edge", stays(13, TOPO_NO_EDGE), 1);
+    is("the outer body cannot go through the inner one", stays(3, TOPO_HIT), 1);
+    is("its first edge", topo_edit_each(&t, &first, 1, &hit, 1, &taken), TOPO_DONE);
+    topo_forget(&t);
+    is("is refused", topo_drop(&t, 3, &came), TOPO_DONE);
+    is("for this pair", (uint32_t)(hit.why == TOPO_HIT && came.a == hit.a && came.b == hit.b && came.c == hit.c), 1);
+    is("a group", topo_open(&t, &fault), TOPO_DONE);
+    topo_forget(&t);
+    is("does not fail", stays(2, TOPO_HIT), 1);
+    is("so that it is closed", topo_close(&t, &kept, &fault), TOPO_DONE);
+    is("and kept", kept, TOPO_KEPT);
+    topo_forget(&t);
+    is("the inner one goes", topo_drop(&t, 7, &came), TOPO_DONE);
+    is("by one collapse", (uint32_t)(came.why == 0 && came.a == 5 && came.x == 65 && came.y == 50 && came.z == 50), 1);
+    is("in a group", (uint32_t)tells("group\ncollapse 5 6 65 50 50\nclose kept\n"), 1);
+    is("its numbers", topo_counts(&t, &counted), TOPO_DONE);
+    is("are those of two bodies", (uint32_t)(counted.vertices == 8 && counted.faces == 8), 1);
+    is("the outer one", topo_drop(&t, 4, &came), TOPO_DONE);
+    is("goes now", (uint32_t)(came.why == 0 && tells("group\ncollapse 1 2 200 0 0\nclose kept\n")), 1);
+    is("a vertex of the third", topo_solid(&t, 12, &fault), TOPO_DONE);
+    topo_forget(&t);
+    is("keeps it", stays(9, TOPO_MOVES_SOLID), 1);
+    is("its numbers", topo_counts(&t, &counted), TOPO_DONE);
+    is("are as before", (uint32_t)(counted.vertices == 4 && counted.faces == 4), 1);
+    topo_free(&t);
+}
+
 static void alone(void)
 {
     /* an edge through the middle of a triangle, and beside it */
@@ -790,6 +837,7 @@ int main(void)
     components();
     joined_and_large();
     folds_closed();
+    components_dropped();
     alone();
     printf("%d hold, %d do not\n", held, failed);
     return failed != 0;

@@ -149,6 +149,8 @@ void edits()
     is("ids that are not dense", ends([&] { surface.begin_log(); }, TOPO_SPARSE));
     surface.open();
     is("a log does not end in a group", ends([&] { surface.end_log(); }, TOPO_GROUPED));
+    is("in a group the component goes", surface.drop(1).why == 0 && surface.components().empty());
+    is("and then there is no edge", surface.drop(1).why == TOPO_NO_EDGE);
 }
 
 void tables()

@@ -165,6 +165,8 @@ def edits():
         says("ids that are not dense", topo.TopoError, "topo_begin_log|topo_renumber goes before", surface.begin_log)
         surface.forget()
         holds("its log", log.startswith("split 1 2 5 20 0 0\nno pinch 4 onefan\n") and log.endswith("close undone\nno pinch 4 onefan\n") and surface.log() == "")
+        holds("the component goes", surface.drop(1).why == "" and surface.components() == [])
+        holds("and then there is no edge", surface.drop(1) == topo.Answer("noedge", 0, 0, 0, None))
 
 
 def tables():

@@ -93,8 +93,8 @@ Band = struct("Band", low_high=u32)
 Cells = struct("Cells", x_y_z=i32, side_nx_ny_nz=u32)
 
 CALLS = ("topo_new topo_new_numbered topo_free topo_shift_each topo_shift_all topo_set topo_step topo_split topo_collapse topo_flip topo_zip topo_pinch topo_fit topo_fit_by "
-         "topo_edit_each topo_close_fold topo_solid topo_open topo_close topo_undo topo_counts topo_points topo_faces topo_star topo_beside topo_components topo_solids "
-         "topo_events topo_log topo_forget topo_renumber topo_begin_log topo_save topo_end_log topo_keep topo_version topo_calls").split()
+         "topo_edit_each topo_close_fold topo_drop topo_solid topo_open topo_close topo_undo topo_counts topo_points topo_faces topo_star topo_beside topo_components "
+         "topo_solids topo_events topo_log topo_forget topo_renumber topo_begin_log topo_save topo_end_log topo_keep topo_version topo_calls").split()
 
 Component = collections.namedtuple("Component", "vertex faces euler volume")
 Answer = collections.namedtuple("Answer", "why a b c at")
@@ -467,6 +467,14 @@ class Tracker:
         collapse's, or the first reason against it; of "crowded" a and b are the ends of the edge that would be so, or 0, where the edge itself is."""
         ids, answer = [u32(whole(v, 1, ID_MAX, "an id")) for v in (a, b)], Answered()
         self.call("topo_close_fold", *ids, ref(answer))
+        at = self.from_grid((answer.x, answer.y, answer.z)) if answer.why == 0 else None
+        return Answer(AGAINST[answer.why], answer.a, answer.b, answer.c, at)
+
+    def drop(self, vertex):
+        """Drops the component of a vertex, all that chains of faces join with it, by collapses, whole or not at all. Its Answer is that of the last collapse, or
+        the reason why the component stays."""
+        answer = Answered()
+        self.call("topo_drop", u32(whole(vertex, 1, ID_MAX, "an id")), ref(answer))
         at = self.from_grid((answer.x, answer.y, answer.z)) if answer.why == 0 else None
         return Answer(AGAINST[answer.why], answer.a, answer.b, answer.c, at)
 

@@ -1,11 +1,13 @@
 -- The components of a mesh, each with what there is to measure of it.
-use Rattle.std.specs.Prelude.{ℕ, ℤ, pos, ◌+ℤ◌, ◌-ℤ◌, List, [], ◌∷◌, length, map, slice_index}
+use Rattle.std.specs.Prelude.{ℕ, ℤ, pos, ◌+ℤ◌, ◌-ℤ◌, List, [], ◌∷◌, length, map, slice_get, slice_index}
 use Rattle.std.specs.List.{filter, flat_map}
+use Rattle.std.specs.Option.{option_map_or}
 use Rattle.std.specs.FinMap as finite
 use Rattle.mesh_base.specs.Mesh.{Mesh}
+use Rattle.mesh_base.specs.Sides.{faces_at}
 use Rattle.mesh_base.specs.Placements.{rest_positions}
 use Rattle.mesh_base.specs.Changes.{corner_list}
-use Rattle.edit_base.specs.Classes.{is_one_of, classes}
+use Rattle.edit_base.specs.Classes.{is_one_of, class_of, classes}
 use Rattle.edit_base.specs.Edges.{corners_at}
 use Rattle.mesh_measure.specs.Above.{edges_from}
 use Rattle.mesh_measure.specs.Shape.{share_vertex}
@@ -48,3 +50,11 @@ component_of m faces = record {
 -- the components, in order of their least faces: two faces that share a vertex are in one, and so on
 abbrev pub each_component : Mesh → List Component
 each_component m = map (component_of m) (classes (share_vertex m) (finite.keys m.faces))
+
+-- the vertices of the component that has a face, rising
+abbrev pub vertices_with : Mesh → ℕ → List ℕ
+vertices_with m f = vertices_of m (class_of (share_vertex m) (finite.keys m.faces) f)
+
+-- the vertices of the component of a vertex, rising; none, where no face is at it
+abbrev pub component_vertices : Mesh → ℕ → List ℕ
+component_vertices m v = option_map_or (vertices_with m) (slice_get (faces_at m v) 0) []

@@ -1,5 +1,5 @@
 //! The faces and the vertices of a component.
-ghost use Rattle.std.specs.Prelude.{◌≡◌, ◌++◌, ◌↔◌, ℕ, true, IfOk, OnOk};
+ghost use Rattle.std.specs.Prelude.{◌≡◌, ◌++◌, ◌↔◌, ℕ, true, slice_get, IfOk, OnOk};
 ghost use Rattle.std.specs.HashSet.{IsEmpty};
 ghost use Rattle.std.specs.List.{flat_map};
 ghost use Rattle.std.specs.FinMap as map;
@@ -7,7 +7,7 @@ ghost use Rattle.mesh_base.specs.Changes.{corner_list};
 ghost use Rattle.mesh_base.specs.Sides.{faces_at, has_corner};
 ghost use Rattle.edit_base.specs.Classes.{is_one_of, class_of};
 ghost use Rattle.edit_base.specs.Edges.{corners_at};
-ghost use Rattle.mesh_measure.specs.Components.{corners_in, vertices_of};
+ghost use Rattle.mesh_measure.specs.Components.{corners_in, vertices_of, vertices_with, component_vertices};
 ghost use Rattle.mesh_measure.specs.Shape.{share_vertex};
 ghost use Rattle.mesh_measure.specs.Walk.{LeadsTo};
 
@@ -106,4 +106,46 @@ pub(crate) fn vertices_of<S: Surface>(
     let mut vertices = corners_in(alloc, mesh, faces)?;
     put_in_order(&mut vertices);
     Ok(vertices)
+}
+
+// The vertices of the component of a face, of which this is a corner.
+fn vertices_with<S: Surface>(
+    alloc: Global,
+    mesh: &S,
+    f: FaceId,
+    v: VertexId,
+) -> Result<Vec<u32>, NoMemory>
+    requires live { is_one_of (map.keys (S.mesh mesh.now).faces) f ≡ true }
+    requires corner { has_corner (corners_at (S.mesh mesh.now) f) v ≡ true }
+    ensures { IfOk result (λ vs. vs.items ≡ vertices_with (S.mesh mesh.now) f) }
+{
+    let faces = faces_from(alloc, mesh, v)?;
+    vertices_of(alloc, mesh, faces.as_slice())
+}
+
+// The first of some faces.
+fn first_of(faces: &[FaceId]) -> Option<FaceId>
+    ensures { result ≡ slice_get faces.now 0 }
+{
+    match faces.first() {
+        Some(f) => Some(*f),
+        None => None,
+    }
+}
+
+/// The vertices of the component of a vertex, by rising id: those of all faces to which faces lead from it. None where it has no face. Takes
+/// time in proportion to these faces and the logarithm of their number, as far as the calls of the mesh do.
+pub fn component_vertices<S: Surface>(
+    alloc: Global,
+    mesh: &S,
+    v: VertexId,
+) -> Result<Vec<u32>, NoMemory>
+    ensures { IfOk result (λ vs. vs.items ≡ component_vertices (S.mesh mesh.now) v) }
+{
+    let mut star = Vec::new(alloc);
+    mesh.faces_at(v, &mut star)?;
+    match first_of(star.as_slice()) {
+        None => Ok(Vec::new(alloc)),
+        Some(f) => vertices_with(alloc, mesh, f, v),
+    }
 }

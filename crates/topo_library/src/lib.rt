@@ -18,6 +18,7 @@ ghost use Rattle.track_engine.specs.Answers.{Nothing};
 ghost use Rattle.track_engine.specs.Effects.{effect_of, undo_effect};
 ghost use Rattle.track_held.specs.Events.{log_events};
 ghost use Rattle.track_held.specs.Reading.{named_points, named_faces, solid_vertices, star_of, beside_edge};
+ghost use Rattle.track_held.specs.Dropping.{drop_effect, drop_told};
 ghost use Rattle.track_held.specs.Editing.{ends};
 ghost use Rattle.track_held.specs.Tables.{table_fault};
 ghost use Rattle.topo_library.specs.Alone.{places};
@@ -30,6 +31,7 @@ ghost use Rattle.topo_library.specs.Tellings.{way_told, closing_of, undone_of, b
 
 mod alone;
 mod codes;
+mod component_drop;
 mod components;
 mod directives;
 mod edit_calls;
@@ -48,6 +50,7 @@ mod tracker;
 
 use alone::{TopoFive, tell_meets, tell_passes};
 use codes::{RANGE, REFUSED};
+use component_drop::drop_component;
 use components::TopoComponent;
 use directives::{
     advance, close, fit, fit_by, pass_with, renumber, set, shift_each, shift_every, shift_one, step,
@@ -60,6 +63,7 @@ use grid_base::{ID_MAX, LENGTH_MAX};
 use handle::Topo;
 use log_calls::{begin_log, end_log, save};
 use log_text::VERSION;
+use mesh_base::VertexId;
 use new_tracker::make;
 use numbered_tracker::{NumberedRows, make_numbered};
 use queries::{
@@ -385,6 +389,23 @@ pub extern "C" fn topo_close_fold(
     ensures { HandleHasClosedFold (ends a b) topo answer result }
 {
     close_fold(alloc, topo, a, b, answer)
+}
+
+/// Drops the component of a vertex, which are all vertices that chains of faces join with it, and tells what came of it: its edges are collapsed,
+/// one after another, until none of its vertices lives. It is done whole, as a group of its own, or not at all: where a vertex of it is solid, or
+/// one is left where each collapse is refused, nothing is done, and nothing is told to the log. Where no face is at the vertex, there is no edge.
+/// An id that no vertex may have is beyond its limit.
+#[unsafe(no_mangle)]
+pub extern "C" fn topo_drop(alloc: Global, topo: &mut Topo, v: u32, answer: &mut ToldAnswer) -> u32
+    ensures beyond { ¬ IsFrom 1 ID_MAX v → HandleIsBeyond topo answer result }
+    ensures does { IsFrom 1 ID_MAX v → HandleHasWritten (drop_effect v) topo result }
+    ensures tells { IsFrom 1 ID_MAX v →
+        HandleHasTold (λ t. drop_told v (tracker_state t)) topo answer result }
+{
+    if v < 1 || v > ID_MAX {
+        return RANGE;
+    }
+    drop_component(alloc, topo, VertexId(v), answer)
 }
 
 /// Makes a vertex solid: it does not move from here on, unless the group in which this is done is taken back. An id that no vertex may have is

@@ -12,6 +12,8 @@ pub mod Crowded
 pub mod FoldRanges
 pub mod Grouped
 pub mod FoldChosen
+pub mod MeshLeft
+pub mod Dropped
 pub mod DenseSolids
 pub mod DenseStates
 pub mod DenseIds

@@ -16,4 +16,5 @@ pub mod NumberedMade
 pub mod Editing
 pub mod Folds
 pub mod Folding
+pub mod Dropping
 pub mod Heads

@@ -1,5 +1,5 @@
 -- What a call writes to the lines of an engine that is held, and in which state it leaves it.
-use Rattle.std.specs.Prelude.{◌≡◌, ◌++◌, List, Option, Result, IfOk, IsSome}
+use Rattle.std.specs.Prelude.{◌≡◌, Option, Result, IfOk, IsSome}
 use Rattle.in_out.specs.InOut.{InOut, value_before, value_after}
 use Rattle.grid_base.specs.declared.Point.{Point}
 use Rattle.mesh_base.specs.declared.UseWhy.{UseWhy}
@@ -12,10 +12,6 @@ use Rattle.track_engine.specs.Effects.{Effect}
 use Rattle.track_engine.specs.Parts.{Writes, FitTells}
 use Rattle.track_held.specs.declared.held.Held.{Held}
 use Rattle.track_held.specs.Held.{held_state, log_in}
-
--- these come behind what is there
-abbrev pub Appends : {A : Type 0} → List A → InOut (List A) → Type 0
-Appends more all = value_after all ≡ value_before all ++ more
 
 module _ {S : Type 0} {g : Ghosts S} where
   -- the lines of what the effect is in its state are told, and it stands in the state after them; or

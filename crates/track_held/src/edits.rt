@@ -56,7 +56,8 @@ fn tell_undo<S: Surface>(
 
 impl<S: Surface> Held<S> {
     ghost use Rattle.track_held.specs.Held.{held_state, goes_on};
-    ghost use Rattle.track_held.specs.Writing.{WritesEffect, Appends};
+    ghost use Rattle.track_held.specs.Writing.{WritesEffect};
+    ghost use Rattle.pass_run.specs.Calls.{Gains};
 
     /// Asks edits by ids, and tells how many were done and how many refused, and behind the answers what came of each: its
     /// lines are told, or it stops in them for want of memory, and goes on no more. Asked only while it goes on.
@@ -75,7 +76,7 @@ impl<S: Surface> Held<S> {
         ensures told { IfOk result (λ count.
             count ≡ edits_counted asked.now (held_state self.old)) }
         ensures answers { OnOk result
-            (Appends (edited_answers asked.now (held_state self.old)) answers) }
+            (Gains answers (edited_answers asked.now (held_state self.old))) }
     {
         match tell_edits(alloc, &mut self.engine, asked, answers, &mut self.log) {
             Ok(count) => {

@@ -104,7 +104,7 @@ impl<S: Surface> Held<S> {
     }
 
     // Asks edits in a group of their own, which is kept or taken back by what they leave at a vertex.
-    fn edits_as_one(
+    pub(crate) fn edits_as_one(
         &mut self,
         alloc: Global,
         asked: &[Asked],

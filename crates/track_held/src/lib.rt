@@ -6,6 +6,7 @@
 mod asked;
 mod band_pass;
 mod band_table;
+mod drops;
 mod edits;
 mod events;
 mod fold_closure;

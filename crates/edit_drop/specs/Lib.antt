@@ -1,0 +1,2 @@
+pub mod Drop
+pub mod Laws
