@@ -189,6 +189,7 @@ fn answer_words(rt: &HostRuntime, words: &[String], given: Given<'_>) -> ExitCod
     }
     let log = out.take_mark();
     let outcome = keep_card(alloc, given.names, given.card, outcome, &mut desk, log);
+    desk.desk.texts.recall(alloc, rt);
     let left = Left {
         desk: &desk.desk,
         ended: &out.sink.vertices,

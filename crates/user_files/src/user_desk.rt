@@ -165,7 +165,7 @@ impl<'a, 'l, 'w, R: Files + Eprint + Clock, D: ExactDesk, S: ExactDesk> UserDesk
         ensures spared { self.new.spared ≡ self.old.spared }
     {
         let path = path_of(self.alloc, self.rt, name);
-        let _ = self.texts.keep(self.alloc, name, path, bytes);
+        let _ = self.texts.keep(self.alloc, self.rt, name, path, bytes);
     }
 
     // Tells that a file is read, where that may take long.
@@ -175,14 +175,24 @@ impl<'a, 'l, 'w, R: Files + Eprint + Clock, D: ExactDesk, S: ExactDesk> UserDesk
         }
     }
 
-    // Tells what is done once the last file is read, where that may take long, and notes how far it has to come.
-    fn tell_fetched(&self, name: &str) {
+    // Tells what is done once the last file is read, where that may take long.
+    fn tell_fetched(&mut self, name: &str)
+        ensures files { self.new.files ≡ self.old.files }
+        ensures spared { self.new.spared ≡ self.old.spared }
+    {
         let Some(names) = self.names else {
             return;
         };
         if !self.life.is_watched() || name != names.proof {
             return;
         }
+        self.texts.recall(self.alloc, self.rt);
+        self.tell_work(names);
+        self.texts.put_away(self.alloc);
+    }
+
+    // Tells what is done with the texts that were read, and notes how far it has to come.
+    fn tell_work(&self, names: Names<'_>) {
         let (mesh, other) = (self.texts.first(names.mesh), self.texts.last(names.other));
         match names.work {
             Work::Steps => self.life.steps.set(lines_of(b"step", other)),
@@ -216,6 +226,9 @@ impl<'a, 'l, 'w, R: Files + Eprint + Clock, D: ExactDesk, S: ExactDesk> UserDesk
         let Some(path) = path_of(self.alloc, self.rt, name) else {
             return Ok(None);
         };
+        if !self.texts.recall_from(self.alloc, self.rt, path.as_str()) {
+            return Err(StoreFault::NoMemory);
+        }
         let Some(text) = self.texts.from_path(path.as_str()) else {
             return Ok(None);
         };
