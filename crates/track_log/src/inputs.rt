@@ -66,20 +66,20 @@ fn read_lines(
 }
 
 /// Reads the text of a mesh, the points with so many decimals, tests the shape of its lists, and reads the text of a log, each within the
-/// limits of a scale. NoMemory at any texts.
+/// limits of a scale. The bytes are given up: those of the mesh when it is read. NoMemory at any texts.
 pub fn read_texts(
     alloc: Global,
     scale: Scale,
     decimals: u8,
-    mesh: &[u8],
+    mesh: Vec<u8>,
     log: Vec<u8>,
 ) -> Result<Texts, NoMemory>
     requires few { decimals ≤ DECIMALS_MAX }
-    requires mesh_length { length mesh.now ≤ TEXT_MAX }
+    requires mesh_length { length mesh.items ≤ TEXT_MAX }
     requires log_length { length log.items ≤ TEXT_MAX }
-    ensures { IfOk result (ReadsTexts scale decimals mesh.now log.items) }
+    ensures { IfOk result (ReadsTexts scale decimals mesh.items log.items) }
 {
-    let lists = match read_obj(alloc, mesh, decimals) {
+    let lists = match read_obj(alloc, &mesh, decimals) {
         Ok(lists) => lists,
         Err(ReadFault::NoMemory) => return Err(NoMemory),
         Err(ReadFault::Text(fault)) => {
@@ -118,13 +118,13 @@ fn read_and_test(
     alloc: Global,
     scale: Scale,
     decimals: u8,
-    mesh: &[u8],
+    mesh: Vec<u8>,
     log: Vec<u8>,
 ) -> Result<PreparedLog, NoMemory>
     requires few { decimals ≤ DECIMALS_MAX }
-    requires mesh_length { length mesh.now ≤ TEXT_MAX }
+    requires mesh_length { length mesh.items ≤ TEXT_MAX }
     requires log_length { length log.items ≤ TEXT_MAX }
-    ensures { IfOk result (ReadsAndTests scale decimals mesh.now log.items) }
+    ensures { IfOk result (ReadsAndTests scale decimals mesh.items log.items) }
 {
     match read_texts(alloc, scale, decimals, mesh, log)? {
         Texts::No(why) => Ok(PreparedLog::No(why)),
@@ -184,7 +184,7 @@ pub fn prepare_log<O: Outside>(
             alloc,
             files.scale,
             files.decimals,
-            &mesh,
+            mesh,
             log,
         )?),
     }

@@ -78,15 +78,15 @@ fn read_all(
     alloc: Global,
     scale: Scale,
     decimals: u8,
-    mesh: &[u8],
+    mesh: Vec<u8>,
     log: Vec<u8>,
     proof: Vec<u8>,
 ) -> Result<Inputs, NoMemory>
     requires few { decimals ≤ DECIMALS_MAX }
-    requires mesh_length { length mesh.now ≤ TEXT_MAX }
+    requires mesh_length { length mesh.items ≤ TEXT_MAX }
     requires log_length { length log.items ≤ TEXT_MAX }
     requires proof_length { length proof.items ≤ TEXT_MAX }
-    ensures { let texts = read_of_lists scale (lists_of decimals mesh.now) log.items in
+    ensures { let texts = read_of_lists scale (lists_of decimals mesh.items) log.items in
         IfOk result (GivesInput scale (read_with_proof texts (proofs_of proof.items))) }
 {
     match read_texts(alloc, scale, decimals, mesh, log)? {
@@ -129,7 +129,7 @@ pub(crate) fn prepare_proof<O: Outside>(
         alloc,
         given.files.scale,
         given.files.decimals,
-        &mesh,
+        mesh,
         log,
         proof,
     )?)

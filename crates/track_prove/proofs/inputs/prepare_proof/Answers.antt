@@ -1,4 +1,4 @@
-use Rattle.std.proofs.Common.{ap, sym, ◌∙◌, subst, Ok}
+use Rattle.std.proofs.Common.{ap, sym, ◌∙◌, subst, refl, Ok}
 use Rattle.outside_io.specs.World.{Contents}
 use Rattle.track_input.specs.Fetched.{source_of}
 use Rattle.track_input.specs.Named.{proof_names}
@@ -27,4 +27,4 @@ returns-clause-prepares g c =
     let P : Contents → Type 0 = λ holds. IsSource c.args.given.files.scale holds.files c.args.given.proof.now (source_of c.in_ok-bytes.field-0) in
     prepares_read (g.O.Outside.around c.args.outside.now).world.holds.files (proof_names c.args.given) c.in_ok-why.field-0 c.in_ok-why.ensures.fetches
     c.in-Yes.mesh.items c.in-Yes.log.items (ap fetched_by c.in-Yes.is) c.in_ok-bytes.field-0 (subst P c.in_ok-why.ensures.looks.kept c.in_ok-bytes.ensures.source)
-    c.in-Bytes.bytes.items (ap source_of c.in-Bytes.is) c.deref.result.now c.deref.ensures.value c.in_ok-read_all.field-0 c.in_ok-read_all.ensures
+    c.in-Bytes.bytes.items (ap source_of c.in-Bytes.is) c.in-Yes.mesh.items refl c.in_ok-read_all.field-0 c.in_ok-read_all.ensures
