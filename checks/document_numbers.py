@@ -155,7 +155,7 @@ SAID = {
     "docs/DEFINITIONS.md": ["The **{directions} directions** are"],
     "docs/ARCHITECTURE.md": ["the written test: {directions} directions over"],
     "docs/PROOFS.md": ["of {proofs_for_c:w} functions that hand pointers to C, and {other_proofs:w} that make a ghost value"],
-    "docs/DECISIONS.md": ["takes away up to {swept:w} such files", "{PASSES_MAX} is a limit of texts", "Texts stay below 2^{^TEXT_MAX+1} bytes"],
+    "docs/DECISIONS.md": ["takes away up to {swept:w} such files", "Texts stay below 2^{^TEXT_MAX+1} bytes"],
     "docs/EXAMPLES.md": [
         "and how far, 0 to {TURN_MAX}, the second",
         "longer than {high} + d/{high_part}, and collapses it where it is shorter than {low} + d/{low_part}.",
@@ -193,7 +193,7 @@ FREE = [
     (r"README", r"10 to the power -N|N =\s+3 counts|4\.17 mm|0\.17|each vertex moved by 1 2 3|vertex 5 too|the log, 2 holds", "the grid by an example; the shown job; a promise by its place"),
     (r"ARCHITECTURE", r"\d+ files\.|longer than 5,|of 16 lines at most", "counted by documents.py"),
     (r"CONNECT", r"L / 2|version \d+|\d\.\d+\.0|\d\.\d\.\d|PREFIX-000000", "half a length; versions that were tried; the name of a file"),
-    (r"DECISIONS", r"\b(?:64|32|128) bits|below 256|cuts 262 to 6", "the widths of types"),
+    (r"DECISIONS", r"\b(?:64|32|128) bits|at most 2\^32|below 256|cuts 262 to 6", "the widths of types"),
     (r"PROVED|DEFINITIONS", r"\"3 and 4\"|^## \d+(?: and \d+)?:|of 1/q, at", "headings, which are README.md's promises; a fraction"),
     (r"FORMATS", r"(?:times|divided by) 10 to the power N|with N = 3, -5 is|k - 2|2G = 2C|divided by 2 to the power M", "formulas"),
     (r"FORMATS", r"(?s)and its vertices 8\(c - 1\).*?cut as in OBJ|steps 1, 2 and 3|1 for y, 2 for z", "the job of cubes, which documents.py computes"),
