@@ -209,10 +209,10 @@ private:
         for (const Corners &n : necks)
             ++(cut(mesh.id[n[0]], mesh.id[n[1]], mesh.id[n[2]]) ? told.necks : told.necks_undone), fresh = false;
     }
-    // A sheet that a flow thins gets a rim as sharp as it is thin, since the faces at the rim are no smaller than others. Where it is sharp
-    // the ends of its edges are asked to go inward, toward the middle between the corners on both sides, as surface tension would draw
-    // them: by at most 0.3 of the least height of the faces there, so that none turns over. The volume that this takes goes to the
-    // neighbours that stay, and so the rim grows thick.
+    // A sheet that a flow thins gets a rim as sharp as it is thin, since the faces at the rim are no smaller than others. Where it is
+    // sharp the ends of its edges are asked to go inward, toward the middle between the corners on both sides, as surface tension
+    // would draw them: by at most 0.3 of the least height of the faces there, so that none turns over. The volume that this takes
+    // goes to the neighbours that stay, and so the rim grows thick.
     void draw_in_rims()
     {
         read();
