@@ -64,7 +64,7 @@ Improving open_guards()
 {
     Improving g{100};
     g.min_edge_length = g.min_triangle_angle = g.collapse_min_angle = 0, g.max_triangle_angle = 180, g.max_edge_length = 1e3;
-    g.flip_rounds = g.collapse_rounds = 0, g.restore_volume = false;
+    g.flip_rounds = g.collapse_rounds = 0, g.rim_max_shift = 0, g.restore_volume = false;
     g.max_volume_change = g.edge_flip_max_volume_change = 1e9;
     g.edge_flip_min_cosine = g.collapse_max_turn = g.collapse_min_cosine = g.fold_cosine = -2;
     return g;
@@ -224,6 +224,34 @@ void volumes()
     }
 }
 
+void rims()
+{
+    // a wedge: its rim, of 100, is as sharp as the edge across from it, of 20, is near
+    const Shape wedge{{{0, -50, 0}, {0, 50, 0}, {87, 0, 10}, {87, 0, -10}}, {{0, 1, 2}, {1, 0, 3}, {0, 2, 3}, {1, 3, 2}}};
+    const auto drawn = [&](const Change &change, bool solid, double &kept) {
+        topo_tracker t = tracked(wedge);
+        for (const std::uint32_t v : {1, 2})
+            if (solid)
+                t.solid(v);
+        Improving g = open_guards();
+        g.rim_max_shift = 0.1, change(g);
+        const double before = volume(t);
+        Improver(t, g).improve();
+        t.step();
+        kept = volume(t) / before;
+        Mesh m;
+        m.read(t);
+        return m.points[0][0] / 1e3;
+    };
+    double kept = 0, lost = 0, none = 0;
+    const Change back = [](Improving &g) { g.restore_volume = true; };
+    const double by = drawn(back, false, kept);
+    is("a sharp rim is drawn in, by no more than it may", 3 < by && by <= 10);
+    is("and its volume given back", drawn([](Improving &) {}, false, lost) == by && lost < 0.97 && std::fabs(kept - 1) < 0.01);
+    is("a blunt one is not", drawn([](Improving &g) { g.rim_cosine = -0.99; }, false, none) == 0 && none == 1);
+    is("nor one between solid vertices", drawn(back, true, none) == 0);
+}
+
 void slides()
 {
     Shape s = ball({0, 0, 0}, 300, 60);
@@ -332,6 +360,7 @@ int main()
     collapses();
     caps();
     volumes();
+    rims();
     slides();
     necks();
     merges();

@@ -27,7 +27,7 @@ H = 1000  # the mean edge, in units of the grid
 # nothing is wanted, and nothing held back
 OFF = dict(min_edge_length=0, max_edge_length=1e4, max_volume_change=1e9, min_triangle_angle=0, max_triangle_angle=180,
            needle_max_length=0, edge_flip_min_cosine=-2, edge_flip_max_volume_change=1e9, collapse_min_angle=0, collapse_max_turn=-2,
-           collapse_min_cosine=-2, fold_cosine=-2, restore_volume=False)
+           collapse_min_cosine=-2, fold_cosine=-2, rim_max_shift=0, restore_volume=False)
 GOLD = (1 + math.sqrt(5)) / 2
 CORNERS = [(-1, GOLD, 0), (1, GOLD, 0), (-1, -GOLD, 0), (1, -GOLD, 0), (0, -1, GOLD), (0, 1, GOLD), (0, -1, -GOLD), (0, 1, -GOLD),
            (GOLD, 0, -1), (GOLD, 0, 1), (-GOLD, 0, -1), (-GOLD, 0, 1)]
@@ -392,6 +392,28 @@ def restored(seed):
                 holds(f"ball {seed}: the shift is bounded: {far}", far <= 0.001 * H + 1)
 
 
+def rims():
+    """A rim that bends by more than rim_cosine is drawn in with the next step, up to the shift and to the height of its faces that are
+    allowed, and the volume that this takes is given back."""
+    a, b, c, d = 0, -500, 870, 100
+    points, faces = [(a, b, 0), (a, -b, 0), (c, 0, d), (c, 0, -d)], [(1, 2, 3), (2, 1, 4), (1, 3, 4), (2, 4, 3)]
+    bent = between(*(normal((dict(enumerate(points, 1)), None), face) for face in faces[:2]))
+    height = 2 * d * math.hypot(c, b) / math.sqrt(c * c + b * b + d * d)  # of the two faces at c d, over their longest edges
+    for limit, most, solid in ((bent + 0.01, 1, False), (bent + 0.01, 0.01, False), (bent - 0.01, 1, False), (bent + 0.01, 1, True)):
+        with tracker(points, faces) as surface:
+            for v in (1, 2) if solid else ():
+                surface.solid(v)
+            before = six_volume(read(surface))
+            improver(surface, rim_cosine=limit, rim_max_shift=most, collapse_rounds=0, flip_rounds=0, restore_volume=True).improve()
+            surface.step()
+            after = read(surface)
+            far = after[0][1][0] if limit > bent and not solid else 0
+            moved = [round(p - q) for v in (1, 2) for p, q in zip(after[0][v], points[v - 1])]
+            wanted = 0 if limit < bent or solid else min(0.3 * height, most * H)
+            holds(f"a rim, {limit:.2f}, {most}, {solid}: {moved}", moved == [far, 0, 0] * 2 and abs(far - wanted) <= 1)
+            holds(f"its volume: {six_volume(after) / before}", abs(six_volume(after) / before - 1) < 0.01)
+
+
 def six_volume_by(mesh, face, v, axis):
     """By how much six times the volume below a face grows where a corner of it goes by one along an axis."""
     points = [list(mesh[0][w]) for w in face]
@@ -449,7 +471,7 @@ def all_cases():
     for seed in range(6):
         flipped_ball(seed, 0.03, 60)
     flipped_ball(6, 0.15, 0)
-    for case in (rings, folds, no_flips, necks):
+    for case in (rings, folds, no_flips, necks, rims):
         case()
     chosen(1)
     smoothing(1)

@@ -33,6 +33,8 @@ def jobs():
     far = round(2 * H * 4 / 1.17)
     for seed in range(3):
         yield f"ball {seed}", "flow", 6, ball(3, 0.25, seed)
+    points, faces = ball(4, 0.02, 3)
+    yield "a flat ball", "flow", 3, ([(x, y, round(0.06 * z)) for x, y, z in points], faces)
     yield "two balls", "merge", 2, pair(ball(4), (far + 400, 31, 17))
     yield "two bumpy balls", "merge", 2, pair(ball(4, 0.1, 5), (31, far + 500, 17))
     yield "slabs", "merge", 2, pair(slab(6, 2), (300, 180, 2500))

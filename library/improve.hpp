@@ -40,6 +40,8 @@ struct Improving {
     double collapse_min_cosine = 0;                // no two faces at the edge bend more after a collapse, or no more than they did
     double fold_cosine = -0.5;                     // beside an edge that bends by more, edges are collapsed where that bends less,
                                                    // whatever max_volume_change and the two guards above say
+    double rim_cosine = -0.6;                      // an edge that bends by more is a rim that grows sharp, and is drawn in with the next
+    double rim_max_shift = 0.1;                    // step, by at most so many h
     int collapse_rounds = 2, flip_rounds = 2;      // in one call
     bool allow_topology_changes = false;           // whether a neck of three short edges is cut
     bool restore_volume = true;                    // what edits took of the volume is asked back, where it was taken, with the next step,
@@ -47,11 +49,11 @@ struct Improving {
 };
 
 // For a surface that moves along its normals, as one that grows or flows by its curvature: it swallows its creases and necks, and so an
-// edge is collapsed there though that changes more of the volume, and bends more.
+// edge is collapsed there though that changes more of the volume, and bends more, and no crease is drawn in.
 inline Improving moving_along_normals(double average_edge_length)
 {
     Improving by{average_edge_length};
-    by.max_volume_change = 0.1, by.collapse_min_cosine = -2;
+    by.max_volume_change = 0.1, by.collapse_min_cosine = -2, by.rim_max_shift = 0;
     return by;
 }
 
@@ -77,6 +79,8 @@ public:
         if (by.allow_topology_changes)
             cut_necks();
         for (int i = 0; i < by.flip_rounds && flip(); ++i) {}
+        if (by.rim_max_shift > 0)
+            draw_in_rims();
         if (by.restore_volume)
             give_back();
     }
@@ -204,6 +208,52 @@ private:
         }
         for (const Corners &n : necks)
             ++(cut(mesh.id[n[0]], mesh.id[n[1]], mesh.id[n[2]]) ? told.necks : told.necks_undone), fresh = false;
+    }
+    // A sheet that a flow thins gets a rim as sharp as it is thin, since the faces at the rim are no smaller than others. Where it is
+    // sharp the ends of its edges are asked to go inward, toward the middle between the corners on both sides, as surface tension
+    // would draw them: by at most 0.3 of the least height of the faces there, so that none turns over. The volume that this takes
+    // goes to the neighbours that stay, and so the rim grows thick.
+    void draw_in_rims()
+    {
+        read();
+        std::vector<Point> inward(mesh.id.size(), Point{0, 0, 0});
+        std::vector<char> sharp(mesh.id.size(), 0);
+        for (const Edge &e : mesh.edges) {
+            if (cosine(mesh.normal(e.left), mesh.normal(e.right)) >= by.rim_cosine)
+                continue;
+            const Point along = at(e.b) - at(e.a), to = 0.5 * (at(e.c) + at(e.d)) - 0.5 * (at(e.a) + at(e.b));
+            const double size = dot(along, along);
+            const Point across = to - ((size > 0 ? dot(to, along) / size : 0) * along);
+            const double far = norm(across);
+            for (const int v : {e.a, e.b})
+                sharp[v] = 1, inward[v] = inward[v] + ((far > 0 ? 1 / far : 0) * across);
+        }
+        std::vector<std::pair<std::uint32_t, Point>> shifts;
+        for (int i = 0; i < static_cast<int>(mesh.id.size()); ++i) {
+            const double size = norm(inward[i]);
+            if (!(size > 0) || mesh.solid[i])
+                continue;
+            double far = by.rim_max_shift * h;
+            Point n{0, 0, 0};
+            std::vector<int> ring; // each twice
+            for (int k = mesh.first[i]; k < mesh.first[i + 1]; ++k) {
+                const Corners &f = mesh.faces[mesh.star[k]];
+                const Point area = mesh.normal(mesh.star[k]);
+                double longest = 0;
+                for (int s = 0; s < 3; ++s) {
+                    longest = std::max(longest, norm(at(f[s]) - at(f[(s + 1) % 3])));
+                    if (!sharp[f[s]])
+                        ring.push_back(f[s]);
+                }
+                n = n + area, far = std::min(far, 0.3 * norm(area) / longest);
+            }
+            const Point shift = (far / size) * inward[i];
+            const double lost = dot(shift, n);
+            for (const int v : ring)
+                won[mesh.id[v]] += lost / static_cast<double>(ring.size());
+            shifts.push_back({mesh.id[i], tracker.grid.unit * shift});
+        }
+        tracker.shift_each(shifts);
     }
     // Asks back what the edits won or took of the volume since it was last asked: of each vertex where it was, along its area vector.
     void give_back()

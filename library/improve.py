@@ -194,6 +194,8 @@ class Improving:
     collapse_min_cosine: float = 0                # no two faces at the edge bend more than this after a collapse, or no more than they did
     fold_cosine: float = -0.5                     # beside an edge that bends by more, edges are collapsed where that lessens it,
                                                   # whatever the other guards say
+    rim_cosine: float = -0.6                      # an edge that bends by more is a rim that grows sharp, and is drawn in with the next
+    rim_max_shift: float = 0.1                    # step, by at most so many h
     collapse_rounds: int = 2                      # in one call
     flip_rounds: int = 2
     allow_topology_changes: bool = False          # whether a neck of three short edges is cut
@@ -203,8 +205,8 @@ class Improving:
 
 def moving_along_normals(average_edge_length):
     """For a surface that moves along its normals, as one that grows or flows by its curvature: it swallows its creases and necks, and so
-    an edge is collapsed there though that changes more of the volume, and bends more."""
-    return Improving(average_edge_length, max_volume_change=0.1, collapse_min_cosine=-2)
+    an edge is collapsed there though that changes more of the volume, and bends more, and no crease is drawn in."""
+    return Improving(average_edge_length, max_volume_change=0.1, collapse_min_cosine=-2, rim_max_shift=0)
 
 
 @dataclasses.dataclass
@@ -250,6 +252,8 @@ class Improver:
         for _ in range(self.by.flip_rounds):
             if not self.flip():
                 break
+        if self.by.rim_max_shift > 0:
+            self.draw_in_rims()
         if self.by.restore_volume:
             self.give_back()
 
@@ -342,6 +346,45 @@ class Improver:
         for neck in necks:
             done = self.cut(*(mesh.ids[v] for v in neck))
             self.told.necks, self.told.necks_undone, self.mesh = self.told.necks + done, self.told.necks_undone + (not done), None
+
+    def draw_in_rims(self):
+        """A sheet that a flow thins gets a rim as sharp as it is thin, since the faces at the rim are no smaller than others. Where it is
+        sharp the ends of its edges are asked to go inward, toward the middle between the corners on both sides, as surface tension
+        would draw them: by at most 0.3 of the least height of the faces there, so that none turns over. The volume that this takes
+        goes to the neighbours that stay, and so the rim grows thick."""
+        self.read()
+        mesh, inward = self.mesh, {}
+        for i in self.near(lambda them: them.bend() < self.by.rim_cosine + SLACK):
+            edge = mesh.edges[i]
+            if cosine(mesh.normal(edge.left), mesh.normal(edge.right)) >= self.by.rim_cosine:
+                continue
+            a, b, c, d = self.ends(edge)
+            along, to = minus(b, a), tuple(0.5 * (r + s) - 0.5 * (p + q) for p, q, r, s in zip(a, b, c, d))
+            size = dot(along, along)
+            share = dot(to, along) / size if size > 0 else 0.0
+            across = tuple(p - share * q for p, q in zip(to, along))
+            far = norm(across)
+            share = 1 / far if far > 0 else 0.0
+            for v in edge[:2]:
+                inward[v] = tuple(p + share * q for p, q in zip(inward.get(v, (0.0, 0.0, 0.0)), across))
+        ids, shifts, unit = [], [], self.surface.unit
+        for i in sorted(inward):
+            size, far, ring = norm(inward[i]), self.by.rim_max_shift * self.h, []  # in the ring each is twice
+            if not size > 0 or mesh.solid[i]:
+                continue
+            for f in mesh.stars[i]:
+                a, b, c = corners = mesh.corners(f)
+                longest = max(norm(minus(a, b)), norm(minus(b, c)), norm(minus(c, a)))
+                ring += [v for v in mesh.faces[f] if v not in inward]
+                far = min(far, 0.3 * norm(area_vector(*corners)) / longest)
+            share = far / size
+            shift = tuple(share * p for p in inward[i])
+            lost = dot(shift, total(mesh.normal(f) for f in mesh.stars[i]))
+            for v in ring:
+                self.won[mesh.ids[v]] = self.won.get(mesh.ids[v], 0.0) + lost / len(ring)
+            ids.append(mesh.ids[i])
+            shifts.append(tuple(unit * p for p in shift))
+        self.surface.shift(ids, shifts)
 
     def give_back(self):
         """Asks back what the edits won or took of the volume since it was last asked: where it was, along the vertex's area vector."""

@@ -76,6 +76,7 @@ public:
 
     void merge()
     {
+        near.clear(), tried.clear(), filled.clear(); // the surface may have moved since an earlier call
         mesh.read(tracker);
         read_points();
         normals.clear();
@@ -134,7 +135,7 @@ private:
     std::priority_queue<Fold> queue;       // the nearest first
     std::map<Pair, int> tried;             // how often closing a fold over this edge was refused
     std::set<Pair> filled;                 // edges that a flip alone made
-    std::unordered_map<Id, std::set<Id>> near; // the vertices within `apart` edges of one, as long as nothing is joined
+    std::unordered_map<Id, std::set<Id>> near; // in a call, the vertices within `apart` edges of one, as long as nothing is joined
 
     // ---- what the surface is around a place ----
 
@@ -347,8 +348,11 @@ private:
     bool seed(Id a, Id b, Id e, Id f)
     {
         Ring r, s;
-        if (!ring(a, b, r) || !ring(e, f, s) || vertices_near(a).count(e) || vertices_near(a).count(f))
+        if (!ring(a, b, r) || !ring(e, f, s))
             return false;
+        for (const Id v : {a, b})
+            if (const std::set<Id> &its = vertices_near(v); its.count(e) || its.count(f))
+                return false;
         const Id p[4] = {b, r.c, a, r.d}, q[4] = {f, s.d, e, s.c}; // the rims of the tunnel, as the zip joins them
         std::vector<std::pair<Id, Point>> stood;
         for (int i = 0; i < 4; ++i)
@@ -397,12 +401,13 @@ private:
         std::vector<std::pair<Cell, Side>> sides;
         sides.reserve(mesh.edges.size());
         for (const Mesh::Edge &e : mesh.edges) {
-            const Point &n = normals[e.left], &m = normals[e.right];
-            if (!(dot(n, n) > 0) || !(dot(m, m) > 0))
+            const Point &n = normals[e.left], &m = normals[e.right], sum = n + m;
+            const double size = norm(sum);
+            if (!(dot(n, n) > 0) || !(dot(m, m) > 0) || !(size > 0))
                 continue;
             const Point mid = 0.5 * (mesh.points[e.a] + mesh.points[e.b]);
             const auto in = [&](int axis) { return static_cast<std::int32_t>(std::floor(mid[axis] / gap)); };
-            sides.push_back({{in(2), in(1), in(0)}, {mid, 0.5 * (n + m), mesh.id[e.a], mesh.id[e.b]}});
+            sides.push_back({{in(2), in(1), in(0)}, {mid, (1 / size) * sum, mesh.id[e.a], mesh.id[e.b]}});
         }
         std::sort(sides.begin(), sides.end(), [](const auto &s, const auto &u) { return s.first < u.first; });
         std::vector<Match> found;

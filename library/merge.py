@@ -91,9 +91,10 @@ class Merger:
         self.queue = []         # folds to close, the nearest first
         self.tried = collections.Counter()  # how often closing a fold over an edge was refused
         self.filled = set()     # edges that a flip alone made
-        self.near = {}          # the vertices within `apart` edges of one, as long as nothing is joined
+        self.near = {}          # in a call, the vertices within `apart` edges of one, as long as nothing is joined
 
     def merge(self):
+        self.near, self.tried, self.filled = {}, collections.Counter(), set()  # the surface may have moved since an earlier call
         self.read()
         for ring in self.folds():  # that an earlier call left
             self.push_ring(ring)
@@ -285,7 +286,7 @@ class Merger:
 
     def seed(self, a, b, e, f):
         r, s = self.ring(a, b), self.ring(e, f)
-        if not r or not s or not self.vertices_near(a).isdisjoint((e, f)):
+        if not r or not s or not all(self.vertices_near(v).isdisjoint((e, f)) for v in (a, b)):
             return False
         # the rims of the tunnel, as the zip joins them
         one, other, left = (b, r.c, a, r.d), (f, s.d, e, s.c), []
@@ -312,9 +313,12 @@ class Merger:
         for edge in mesh.edges:
             n, m = mesh.normal(edge.left), mesh.normal(edge.right)
             if norm(n) > 0 and norm(m) > 0:
-                i, j = 0.5 / norm(n), 0.5 / norm(m)
-                mid = tuple(0.5 * (p + q) for p, q in zip(mesh.points[edge.a], mesh.points[edge.b]))
-                sides.append((mid, tuple(i * p + j * q for p, q in zip(n, m)), mesh.ids[edge.a], mesh.ids[edge.b]))
+                i, j = 1 / norm(n), 1 / norm(m)
+                mean = tuple(i * p + j * q for p, q in zip(n, m))
+                size = norm(mean)
+                if size > 0:
+                    mid = tuple(0.5 * (p + q) for p, q in zip(mesh.points[edge.a], mesh.points[edge.b]))
+                    sides.append((mid, tuple(1 / size * p for p in mean), mesh.ids[edge.a], mesh.ids[edge.b]))
         return sorted(sides, key=lambda side: (side[0][0], side[2], side[3]))
 
     def matches(self):

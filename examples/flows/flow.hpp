@@ -118,11 +118,7 @@ public:
         tell(0, {0, 0, 0});
         first_volume = volume, last = seconds();
     }
-    ~Run()
-    {
-        end_log();
-        std::fclose(csv);
-    }
+    ~Run() { std::fclose(csv); }
     // A step: `to` is where the flow takes each point, by row. Behind it come the edits.
     void advance(std::vector<Point> to, double time)
     {
@@ -162,7 +158,7 @@ public:
     // What came of the run, and what the flow adds to that.
     void end(const char *more = "")
     {
-        write("last.obj");
+        end_log(), write("last.obj");
         const Improved &i = improver->told;
         char text[1000];
         std::snprintf(text, sizeof text,
@@ -218,16 +214,16 @@ private:
     {
         if (!log_kept)
             return;
-        log.open(folder + "/log" + std::to_string(chapter++) + ".txt");
-        log << "topo log 2\nmesh 0 " << mesh.id.size() << " " << mesh.faces.size() << "\n";
-        log_size = 0;
+        tracker->renumber(), tracker->begin_log(), read();
+        log.open(folder + "/log" + std::to_string(chapter++) + ".txt"), log_size = 0;
         write_rows("start");
     }
     void end_log()
     {
         if (!log.is_open())
             return;
-        log << "mesh 1 " << mesh.id.size() << " " << mesh.faces.size() << "\nend\n", log.close();
+        tracker->save(), tracker->end_log();
+        log << tracker->log(), log.close();
         write_rows("stop");
     }
     // The surface in grid units.
@@ -308,12 +304,8 @@ private:
         std::fprintf(csv, "%ld,%ld,%ld,%ld,%ld,%ld,%.4f,%.4f,%.4f,%.4f\n", done[TOPO_SPLIT], done[TOPO_COLLAPSED], done[TOPO_FLIPPED],
             done[TOPO_ZIPPED], done[TOPO_PINCHED], refused, spent[0], spent[1], spent[2], spent[3]);
         std::fflush(csv);
-        if (log_size > 60000000) { // the program reads no longer log: another begins
-            end_log();
-            const Improved told = improver->told;
-            begin({points, mesh.faces});
-            improver->told = told;
-        }
+        if (log_size > 60000000) // a log of standard scale is no longer than 64 MiB: another begins
+            end_log(), begin_log();
     }
 };
 

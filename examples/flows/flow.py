@@ -46,7 +46,7 @@ class Run:
         self.exact, self.steps, self.points, self.log = 0.0, 0, self.mesh.positions(), []
         if self.kept:
             self.write("start0.obj", self.mesh.points, "v %d %d %d\n")
-            self.log.append("topo log 2\nmesh 0 %d %d\n" % (len(self.points), len(self.mesh.faces)))
+            self.surface.begin_log()
         if self.frames:
             self.write("frame-000000.obj")
         self.rows = []
@@ -132,8 +132,11 @@ class Run:
         """The surface as it is, the log, and a line of what came of the run."""
         self.write("last.obj")
         if self.kept:
+            self.write("stop0.obj", self.mesh.points, "v %d %d %d\n")
+            self.surface.save()
+            self.surface.end_log()
             with open(os.path.join(self.folder, "log0.txt"), "w", encoding="utf-8") as out:
-                out.write("".join(self.log) + "mesh 1 %d %d\nend\n" % (len(self.points), len(self.mesh.faces)))
+                out.write("".join(self.log) + self.surface.log())
         least, off = min(float(row["least"]) for row in self.rows), 100 * (self.volume / self.exact - 1) if self.exact else 0
         whole, folds = sum(row["way"] == 0 for row in self.rows[1:]), sum(row["folds"] > 0 for row in self.rows)
         print(f"{self.steps} steps, {whole} whole; volume {self.volume:.9f}, {off:+.3f} % off the exact; least angle ever {least:.2f}; "
