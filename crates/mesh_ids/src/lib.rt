@@ -1,0 +1,4 @@
+//! A mesh whose vertices or faces take new ids.
+#![tactic(auto)]
+
+pub mod laws;
