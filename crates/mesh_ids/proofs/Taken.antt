@@ -52,11 +52,11 @@ module _ {X Y : Type 0} (old : FinMap nat_cmp X) (id : ℕ → ℕ) (rises : (k 
       let live = each_live old es (each_found es (entries_sorted old)) in
       entries-of_sorted (map (λ e. (id e.0, value e.1)) es) (sorted_moved (λ k. IsSome (finite.get old k)) id rises value es live (entries_sorted old))
 
-same_entries : {X : Type 0} (es : List (ℕ × X)) → map (λ e. (e.0, e.1)) es ≡ es
+pub same_entries : {X : Type 0} (es : List (ℕ × X)) → map (λ e. (e.0, e.1)) es ≡ es
 same_entries [] = refl
 same_entries (e ∷ es) = ap (λ rest. e ∷ rest) (same_entries es)
 
-itself : (test : ℕ → Bool) (xs : List ℕ) → AllByRecursion (λ x. test x ≡ true → test x ≡ true) xs
+pub itself : (test : ℕ → Bool) (xs : List ℕ) → AllByRecursion (λ x. test x ≡ true → test x ≡ true) xs
 itself test [] = tt
 itself test (x ∷ xs) = (λ h. h, itself test xs)
 

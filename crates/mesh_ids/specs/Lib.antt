@@ -1,2 +1,3 @@
 pub mod NewIds
+pub mod Rows
 pub mod Laws

@@ -2,3 +2,8 @@
 #![tactic(auto)]
 
 pub mod laws;
+mod ranks;
+mod rows;
+mod taking;
+
+pub use taking::{with_face_ids, with_vertex_ids};
