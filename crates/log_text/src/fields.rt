@@ -98,11 +98,7 @@ fn put_numbers(numbers: &[u32], into: &mut Vec<u8>) -> Result<(), NoMemory>
 }
 
 // Appends a word, the next id, and the ids that are taken.
-pub(crate) fn print_new_ids(
-    word: &[u8],
-    new: &NewIds,
-    into: &mut Vec<u8>,
-) -> Result<(), NoMemory>
+pub(crate) fn print_new_ids(word: &[u8], new: &NewIds, into: &mut Vec<u8>) -> Result<(), NoMemory>
     ensures ok { let words = word.now ∷ new_ids_words new.now in
         Appends result into.old into.new (join_with_byte 32 words ++ 10 ∷ []) }
     ensures err { OnErr result (Keeps into.old.items into.new.items) }
