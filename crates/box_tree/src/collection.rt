@@ -28,12 +28,12 @@ pub(crate) fn collect_up_to(
         i -= 1;
         let node = &nodes[i];
         if !q.finds(&node.bound) {
-            i -= node.below;
+            i -= node.below as usize;
         } else if node.below == 0 {
             if into.len() >= most {
                 return Ok(false);
             }
-            into.push((node.item, node.bound))?;
+            into.push((u64::from(node.item), node.bound))?;
         }
     }
     Ok(true)

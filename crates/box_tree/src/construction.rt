@@ -9,6 +9,27 @@ use grid_base::NoMemory;
 // A leaf has at most this many items.
 const LEAF: usize = 4;
 
+/// How many nodes a tree of so many items has, or one more. The items are halved until a part is a leaf.
+pub(crate) fn nodes_for(items: usize) -> usize {
+    let mut parts: usize = 1;
+    let mut size = items;
+    for _ in 0..64 {
+        if size > LEAF {
+            size /= 2;
+            parts = parts.saturating_mul(2);
+        }
+    }
+    let in_leaves = parts.saturating_mul(LEAF);
+    let halved = if size == LEAF {
+        items.saturating_sub(in_leaves)
+    } else {
+        0
+    };
+    items
+        .saturating_add(parts.saturating_mul(2))
+        .saturating_add(halved.saturating_mul(2))
+}
+
 // A box that has both, with the labels that both have.
 fn united(e: &LabelledBox, f: &LabelledBox) -> LabelledBox
     ensures first { Has result e.now }
@@ -32,7 +53,7 @@ fn hull(nodes: &[Node], from: usize) -> LabelledBox
         i -= 1;
         let n = &nodes[i];
         e = united(&e, &n.bound);
-        i -= n.below;
+        i -= n.below as usize;
     }
     e
 }
@@ -46,7 +67,9 @@ fn gather(nodes: &mut Vec<Node>, from: usize) -> Result<(), NoMemory>
 {
     if from < nodes.len() {
         let bound = hull(nodes, from);
-        let below = nodes.len() - from;
+        let Ok(below) = u32::try_from(nodes.len() - from) else {
+            return Err(NoMemory);
+        };
         nodes.push(Node {
             bound,
             below,
@@ -74,8 +97,11 @@ fn put(nodes: &mut Vec<Node>, boxes: &[LabelledBox], order: &[u64]) -> Result<()
     let mut k = order.len();
     while k > 0 {
         k -= 1;
-        let item = order[k];
-        if let Some(bound) = box_at(boxes, item) {
+        let place = order[k];
+        if let Some(bound) = box_at(boxes, place) {
+            let Ok(item) = u32::try_from(place) else {
+                return Err(NoMemory);
+            };
             nodes.push(Node {
                 bound,
                 below: 0,

@@ -6,6 +6,6 @@ use crate::LabelledBox;
 #[derive(Clone, Copy)]
 pub struct Node {
     pub bound: LabelledBox,
-    pub below: usize,
-    pub item: u64,
+    pub below: u32,
+    pub item: u32,
 }

@@ -18,10 +18,10 @@ pub(crate) fn walk(nodes: &[Node], q: &Question, into: &mut Vec<u64>) -> Result<
         let n = &nodes[i];
         if q.finds(&n.bound) {
             if n.below == 0 {
-                into.push(n.item)?;
+                into.push(u64::from(n.item))?;
             }
         } else {
-            i -= n.below;
+            i -= n.below as usize;
         }
     }
     Ok(())

@@ -7,7 +7,7 @@ ghost use Rattle.box_tree.specs.Overlapping.{overlapping, overlapping_apart};
 ghost use Rattle.box_tree.specs.Found.{AreNear};
 
 use crate::collection::collect_up_to;
-use crate::construction::grow;
+use crate::construction::{grow, nodes_for};
 use crate::curve_order::places_along_curve;
 use crate::traversal::walk;
 use crate::{LabelledBox, Node, Question, SmallBox};
@@ -60,6 +60,7 @@ impl BoxTree {
     {
         let order = places_along_curve(alloc, boxes)?;
         let mut nodes = Vec::new(alloc);
+        nodes.reserve_exact(nodes_for(boxes.len()))?;
         grow(&mut nodes, boxes, &order)?;
         Ok(BoxTree { nodes })
     }

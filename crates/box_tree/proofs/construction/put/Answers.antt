@@ -1,4 +1,4 @@
-use Rattle.std.proofs.Common.{◌≡◌, ◌∙◌, ◌+◌, ◌-◌, ◌<◌, ◌++◌, length, get_or, take, reverse, sym, ap, arith}
+use Rattle.std.proofs.Common.{◌≡◌, ◌∙◌, ◌+◌, ◌-◌, ◌<◌, ◌++◌, ◌∷◌, [], ℕ, length, get_or, take, reverse, sym, ap, arith}
 use Rattle.std.specs.List.{filter_map}
 use Rattle.box_tree.specs.Nodes.{entries, entry_at}
 use Rattle.box_tree.proofs.Trees.{item_tree, item_entries}
@@ -13,10 +13,12 @@ loop-k-preserved-in-Continue-1 c =
     let old = c.loop-k.nodes.items in
     let new = c.push.new.self.items in
     let item = get_or c.args.order.now (k - 1) 0 in
+    let same : c.in-Ok.item ≡ item = c.in-Ok.ensures.1 in
+    let pushed : new ≡ old ++ record { bound = c.in-Some.bound; below = 0; item = item } ∷ [] = c.in_ok-push.ensures.items ∙ ap {A = ℕ} (λ n. old ++ record { bound = c.in-Some.bound; below = 0; item = n } ∷ []) same in
     record {
       within = omega arith;
-      tree = item_tree old new c.in-Some.bound item c.in_ok-push.ensures.items c.loop-k.invariant.tree;
-      all = ap (λ xs. filter_map (entry_at c.args.boxes.now) (take (k - 1) c.args.order.now) ++ xs) (item_entries old new c.in-Some.bound item c.in_ok-push.ensures.items)
+      tree = item_tree old new c.in-Some.bound item pushed c.loop-k.invariant.tree;
+      all = ap (λ xs. filter_map (entry_at c.args.boxes.now) (take (k - 1) c.args.order.now) ++ xs) (item_entries old new c.in-Some.bound item pushed)
           ∙ put_some c.args.boxes.now c.args.order.now k (k - 1) one inside c.in-Some.bound (entries (reverse old)) (sym c.in-Some.ensures) ∙ c.loop-k.invariant.all;
     }
 
