@@ -1,7 +1,6 @@
 -- The lines that tell of blocks, passes and edits are read exactly from their words.
-use Rattle.std.proofs.Common.{◌≡◌, ℕ, ◌<◌, ◌≤◌, Bool, true, List, [], ◌∷◌, ◌++◌, length, drop, map, Result, Ok, refl, sym, ap, subst, ◌∙◌, arith, lit<, append_assoc}
+use Rattle.std.proofs.Common.{◌≡◌, ℕ, ◌+◌, ◌-◌, ◌<◌, ◌≤◌, ◌^◌, Bool, true, List, [], ◌∷◌, ◌++◌, length, drop, map, Result, Ok, refl, sym, ap, subst, ◌∙◌, arith, lit<, append_assoc}
 use Rattle.std.specs.Prelude.{decimal, codes}
-use Rattle.std.proofs.lemmas.Bool.{eqb-true}
 use Rattle.std.proofs.lemmas.List.{append-nil, length-map}
 use Rattle.std.proofs.lemmas.List.Elements.{All-from_recursion, recursion_from_All}
 use Rattle.edit_base.specs.declared.Asked.{Asked}
@@ -19,14 +18,15 @@ use Rattle.line_text.specs.declared.TextWhy.TheVariants as why
 use Rattle.line_text.specs.Faults.{◌>>=◌}
 use Rattle.line_text.specs.Spellings.{spelled_at, count_with_end}
 use Rattle.mesh_base.specs.declared.Scale.{Scale}
-use Rattle.log_text.specs.declared.TheConstants.{TURN_MAX, VERSION}
+use Rattle.log_text.specs.declared.TheConstants.{TURN_MAX}
 use Rattle.log_text.specs.declared.LogLine.{LogLine}
 use Rattle.log_text.specs.declared.LogLine.TheVariants as line
+use Rattle.log_text.specs.declared.NewIds.{NewIds}
 use Rattle.log_read.specs.Fields.{Reader, both}
-use Rattle.log_text.specs.Lines.{line_words, pair_words, point_words, place_words, places_words, pass_words, asked_words, reason_words}
-use Rattle.log_read.specs.Values.{is_latest, edge_at, position_at, place_at, reason_of, reason_at}
-use Rattle.log_read.specs.EditLines.{pass_of, split_of, flip_of, collapse_of, zip_of, reason_with_end, asked_of, no_of, edit_of, at_least, ids_add, block_of, places_add, first_place, pinch_of}
-use Rattle.log_read.specs.Laws.{IsFrom, IsEdgeInRange, AreRising, IsPassInRange, IsChangeInRange, IsAskedInRange, IsReasonOfVersion}
+use Rattle.log_text.specs.Lines.{line_words, new_ids_words, pair_words, point_words, place_words, places_words, pass_words, asked_words, reason_words}
+use Rattle.log_read.specs.Values.{is_later, edge_at, position_at, place_at, reason_of, reason_at}
+use Rattle.log_read.specs.EditLines.{pass_of, split_of, flip_of, collapse_of, zip_of, reason_with_end, asked_of, no_of, edit_of, at_least, ids_add, block_of, next_of, new_ids_of, places_add, first_place, pinch_of}
+use Rattle.log_read.specs.Laws.{IsFrom, IsEdgeInRange, AreRising, AreNewIds, IsInRange, IsOfVersion, IsPassInRange, IsChangeInRange, IsAskedInRange, IsReasonOfVersion}
 use Rattle.line_text.proofs.ReadSteps.{bound, ok_same, picked, picked_if, fault_value}
 use Rattle.log_read.proofs.Exactness.{IsExact, count_with_end-length, count_with_end-of_read, spelled_at-exact}
 use Rattle.log_read.proofs.Spellings.{both-exact, one}
@@ -44,9 +44,9 @@ pass_again version pass.Flip r = alone_again (line.Pass pass.Flip)
 pass_again version (pass.Zip n) r = one_again 0 LENGTH_MAX (lit< tt) (λ n. line.Pass (pass.Zip n)) n (omega arith, r)
 pass_again version pass.Pinch r = alone_again (line.Pass pass.Pinch)
 
-pub fit_again : pass_of VERSION true (codes "fit" ∷ []) ≡ Ok line.PassFit
+pub fit_again : (version : ℕ) → is_later version ≡ true → pass_of version true (codes "fit" ∷ []) ≡ Ok line.PassFit
 unfolding pass_of
-fit_again = alone_again line.PassFit
+fit_again version e = rw e (alone_again line.PassFit)
 
 pass_back : (scale : Scale) (version : ℕ) (ended : Bool) (words : List (List ℕ)) (l : LogLine) → pass_of version ended words ≡ Ok l → IsSpelling scale version ended (codes "pass" ∷ words) l
 unfolding pass_of
@@ -59,7 +59,7 @@ pass_back scale version ended (kind ∷ words) l h =
     (picked P kind (codes "flip") _ _ (Ok l) (alone_spelled scale version (front (codes "flip")) ended (line.Pass pass.Flip) words l refl tt tt)
     (picked P kind (codes "zip") _ _ (Ok l) (one_spelled scale version 0 LENGTH_MAX (lit< tt) (λ n. line.Pass (pass.Zip n)) (front (codes "zip")) (λ n r. (refl, r.1, tt)) ended words l)
     (picked P kind (codes "pinch") _ _ (Ok l) (alone_spelled scale version (front (codes "pinch")) ended (line.Pass pass.Pinch) words l refl tt tt)
-    (picked_if P kind (codes "fit") (is_latest version) _ _ (Ok l) (λ t. alone_spelled scale version (front (codes "fit")) ended line.PassFit words l refl tt (eqb-true version VERSION t))
+    (picked_if P kind (codes "fit") (is_later version) _ _ (Ok l) (λ t. alone_spelled scale version (front (codes "fit")) ended line.PassFit words l refl tt (t))
     (fault_value why.Unknown l))))))
     h
 
@@ -136,7 +136,7 @@ reason_with_end-of_written version reason.Full o = count_with_end-length 0 [] re
 reason_with_end-of_written version reason.Doubled o = count_with_end-length 0 [] refl
 reason_with_end-of_written version reason.OneFan o = count_with_end-length 0 [] refl
 reason_with_end-of_written version (reason.Hit pair) o = count_with_end-length 3 (pair_words pair) refl
-reason_with_end-of_written version reason.Solid o = let P : ℕ → Type 0 = λ n. reason_with_end n true (codes "solid" ∷ []) ≡ Ok tt in subst P (sym o) (count_with_end-length 0 [] refl)
+reason_with_end-of_written version reason.Solid o = rw o (count_with_end-length 0 [] refl)
 
 nothing : (ws : List (List ℕ)) → length ws ≡ 0 → ws ≡ []
 nothing [] e = refl
@@ -155,7 +155,7 @@ reason_with_end-of_read version reason.Full o ended rest u h = one_word ended re
 reason_with_end-of_read version reason.Doubled o ended rest u h = one_word ended rest u h
 reason_with_end-of_read version reason.OneFan o ended rest u h = one_word ended rest u h
 reason_with_end-of_read version (reason.Hit pair) o ended rest u h = let c = count_with_end-of_read ended 3 (pair_words pair ++ rest) u h in (c.0, nothing rest (omega (arith, c.1)))
-reason_with_end-of_read version reason.Solid o ended rest u h = let P : ℕ → Type 0 = λ n. reason_with_end n ended (codes "solid" ∷ rest) ≡ Ok u in one_word ended rest u (subst P o h)
+reason_with_end-of_read version reason.Solid o ended rest u h = one_word ended rest u (rw o at h)
 
 drop_front : (xs ys : List (List ℕ)) → drop (length xs) (xs ++ ys) ≡ ys
 drop_front [] ys = refl
@@ -265,18 +265,58 @@ edit_back scale version ended first words l h =
 
 pub block_again : (ids : List ℕ) → (2 ≤ length ids) × AreRising 1 ids → block_of true (map decimal ids) ≡ Ok (line.Block ids)
 unfolding block_of
-block_again ids r = rw (at_least-length 2 (map decimal ids) (omega (arith, length-map ids decimal, r.0)), ids_add-of_written [] 1 ids r.1) refl
+block_again ids r = rw (at_least-length 2 (map decimal ids) (omega (arith, length-map ids decimal, r.0)), ids_add-of_written ID_MAX (lit< tt) [] 1 ids r.1) refl
 
 pub block_back : (scale : Scale) (version : ℕ) (ended : Bool) (words : List (List ℕ)) (l : LogLine) → block_of ended words ≡ Ok l → IsSpelling scale version ended (codes "block" ∷ words) l
 unfolding block_of
 block_back scale version ended words l h =
-    let c = bound (at_least ended 2 words) (λ (u : Unit {0}). ids_add [] 1 words >>= λ ids. Ok (line.Block ids)) l h in
-    let b = bound (ids_add [] 1 words) (λ (ids : List ℕ). Ok (line.Block ids)) l c.after in
+    let c = bound (at_least ended 2 words) (λ (u : Unit {0}). ids_add ID_MAX [] 1 words >>= λ ids. Ok (line.Block ids)) l h in
+    let b = bound (ids_add ID_MAX [] 1 words) (λ (ids : List ℕ). Ok (line.Block ids)) l c.after in
     let n = at_least-of_read ended 2 words c.value c.first in
-    let i = ids_add-of_read [] 1 words b.value b.first in
+    let i = ids_add-of_read ID_MAX (lit< tt) [] 1 words b.value b.first in
     let long : 2 ≤ length i.more = omega (arith, ap length i.same, length-map i.more decimal, n.1) in
     let here : IsSpelling scale version ended (codes "block" ∷ words) (line.Block i.more) = record { has_end = n.0; same = ap (λ (t : List (List ℕ)). codes "block" ∷ t) (sym i.same); fits = (long, i.rising); of_version = tt } in
     subst (IsSpelling scale version ended (codes "block" ∷ words)) (ap line.Block (sym i.all) ∙ ok_same (line.Block b.value) l b.after) here
+
+-- ---- new ids
+
+pub new_ids_again : (new : NewIds) → AreNewIds new → new_ids_of true (new_ids_words new) ≡ Ok new
+unfolding new_ids_of next_of
+new_ids_again new r =
+    let many = at_least-length 2 (new_ids_words new) (omega (arith, length-map new.ids decimal, r.some)) in
+    let next = (spelled_at-exact 1 (ID_MAX + 1) (lit< tt)).of_written new.next (map decimal new.ids) r.next in
+    let small : new.next - 1 < 2 ^ 64 = omega (arith, r.next.1) in
+    rw (many, next, ids_add-of_written (new.next - 1) small [] 1 new.ids r.ids) refl
+
+-- and what is read is spelled so
+pub record NewIdsRead (ended : Bool) (words : List (List ℕ)) (new : NewIds) : Type 0 where
+  pub has_end : ended ≡ true
+  pub same : new_ids_words new ≡ words
+  pub fits : AreNewIds new
+
+abbrev made : ℕ → List ℕ → NewIds
+made next ids = record { next = next; ids = ids }
+
+new_ids_read : (ended : Bool) (words : List (List ℕ)) (new : NewIds) → new_ids_of ended words ≡ Ok new → NewIdsRead ended words new
+unfolding new_ids_of next_of
+new_ids_read ended words new h =
+    let x = bound (at_least ended 2 words >>= λ (u : Unit {0}). spelled_at 1 (ID_MAX + 1) words) (λ (next : ℕ × List (List ℕ)). ids_add (next.0 - 1) [] 1 next.1 >>= λ ids. Ok (made next.0 ids)) new h in
+    let c = bound (at_least ended 2 words) (λ (u : Unit {0}). spelled_at 1 (ID_MAX + 1) words) x.value x.first in
+    let n = at_least-of_read ended 2 words c.value c.first in
+    let s = (spelled_at-exact 1 (ID_MAX + 1) (lit< tt)).of_read words x.value.0 x.value.1 c.after in
+    let y = bound (ids_add (x.value.0 - 1) [] 1 x.value.1) (λ (ids : List ℕ). Ok (made x.value.0 ids)) new x.after in
+    let i = ids_add-of_read (x.value.0 - 1) (omega (arith, s.1.1)) [] 1 x.value.1 y.value y.first in
+    let some : 0 < length i.more = omega (arith, ap length s.0, ap length i.same, length-map i.more decimal, n.1) in
+    let here : NewIdsRead ended words (made x.value.0 i.more) = record { has_end = n.0; same = ap (λ (t : List (List ℕ)). decimal x.value.0 ∷ t) (sym i.same) ∙ sym s.0; fits = record { next = s.1; some = some; ids = i.rising } } in
+    subst (NewIdsRead ended words) (ap (made x.value.0) (sym i.all) ∙ ok_same (made x.value.0 y.value) new y.after) here
+
+pub new_ids_back : (scale : Scale) (version : ℕ) (name : List ℕ) (make : NewIds → LogLine) → ((new : NewIds) → line_words (make new) ≡ name ∷ new_ids_words new) → ((new : NewIds) → AreNewIds new → IsInRange scale (make new)) → ((new : NewIds) → IsOfVersion version (make new))
+    → (ended : Bool) (words : List (List ℕ)) (l : LogLine) → (new_ids_of ended words >>= λ new. Ok (make new)) ≡ Ok l → IsSpelling scale version ended (name ∷ words) l
+new_ids_back scale version name make named fits of ended words l h =
+    let b = bound (new_ids_of ended words) (λ (new : NewIds). Ok (make new)) l h in
+    let n = new_ids_read ended words b.value b.first in
+    let here : IsSpelling scale version ended (name ∷ words) (make b.value) = record { has_end = n.has_end; same = named b.value ∙ ap (λ (t : List (List ℕ)). name ∷ t) n.same; fits = fits b.value n.fits; of_version = of b.value } in
+    subst (IsSpelling scale version ended (name ∷ words)) (ok_same (make b.value) l b.after) here
 
 -- ---- pinches
 

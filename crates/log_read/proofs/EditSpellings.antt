@@ -18,7 +18,7 @@ use Rattle.mesh_base.specs.declared.PairName.{PairName}
 use Rattle.log_read.specs.Fields.{both, or_number}
 use Rattle.log_text.specs.Lines.{point_words, place_words, reason_words}
 use Rattle.log_text.specs.declared.TheConstants.{VERSION}
-use Rattle.log_read.specs.Values.{is_latest, pair_at, edge_at, position_at, place_at, reason_of, reason_at}
+use Rattle.log_read.specs.Values.{is_later, pair_at, edge_at, position_at, place_at, reason_of, reason_at}
 use Rattle.log_read.specs.Laws.{IsFrom, IsEdgeInRange, IsReasonInRange, IsReasonOfVersion}
 use Rattle.line_text.proofs.ReadSteps.{bound, ok_same, some_same, picked, picked_if}
 use Rattle.log_read.proofs.Exactness.{IsExact, or_number-some, spelled_at-exact, in_turn-exact, made-exact}
@@ -84,7 +84,7 @@ reason_of-some version word w h =
     (picked P word (codes "full") (Some reason.Full) _ (Some w) (here reason.Full (codes "full") (refl, (tt, tt)))
     (picked P word (codes "doubled") (Some reason.Doubled) _ (Some w) (here reason.Doubled (codes "doubled") (refl, (tt, tt)))
     (picked P word (codes "onefan") (Some reason.OneFan) _ (Some w) (here reason.OneFan (codes "onefan") (refl, (tt, tt)))
-    (picked_if P word (codes "solid") (is_latest version) (Some reason.Solid) None (Some w) (λ t. here reason.Solid (codes "solid") (refl, (tt, eqb-true version VERSION t)))
+    (picked_if P word (codes "solid") (is_later version) (Some reason.Solid) None (Some w) (λ t. here reason.Solid (codes "solid") (refl, (tt, t)))
     (λ e. absurd (let no : ⊥ = cc in no)))))))))
     h
 
@@ -121,7 +121,7 @@ reason_at-of_written version reason.Full words r = refl
 reason_at-of_written version reason.Doubled words r = refl
 reason_at-of_written version reason.OneFan words r = refl
 reason_at-of_written version (reason.Hit pair) words r = ap (λ (found : Result (PairName × List (List ℕ)) TextWhy). found >>= λ pair. Ok (reason.Hit pair.0, pair.1)) (pair_at-exact.of_written pair words r.0)
-reason_at-of_written version reason.Solid words r = let P : ℕ → Type 0 = λ n. reason_at n (codes "solid" ∷ words) ≡ Ok (reason.Solid, words) in subst P (sym r.1) refl
+reason_at-of_written version reason.Solid words r = rw r.1 refl
 
 pub reason_at-exact : (version : ℕ) → IsExact (reason_at version) reason_words (ReasonFits version)
 reason_at-exact version = record { of_written = reason_at-of_written version; of_read = reason_at-of_read version }

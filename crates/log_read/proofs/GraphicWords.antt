@@ -1,5 +1,5 @@
 -- The words of a line hold no space and no LF, so a line is cut into them again.
-use Rattle.std.proofs.Common.{◌≡◌, ℕ, ◌+◌, ◌<◌, ◌≤◌, ◌^◌, Bool, true, false, eqb, leb, ltb, List, [], ◌∷◌, ◌++◌, length, ℤ, pos, negsuc, suc, refl, ap, ◌∙◌, arith, lit<}
+use Rattle.std.proofs.Common.{◌≡◌, ℕ, ◌+◌, ◌-◌, ◌<◌, ◌≤◌, ◌^◌, Bool, true, false, eqb, leb, ltb, List, [], ◌∷◌, ◌++◌, length, ℤ, pos, negsuc, suc, refl, ap, ◌∙◌, arith, lit<}
 use Rattle.std.specs.Prelude.{decimal, codes, map, unsigned_abs, All}
 use Rattle.std.specs.Fmt.{signed_decimal}
 use Rattle.std.specs.List.{list_all, AllByRecursion, join_with_byte}
@@ -34,13 +34,14 @@ use Rattle.mesh_base.specs.declared.UseWhy.TheVariants as using
 use Rattle.log_text.specs.declared.TheConstants.{COUNT_MAX, SEEN_MAX, CORNER_MAX, PASSES_MAX}
 use Rattle.log_text.specs.declared.LogLine.{LogLine}
 use Rattle.log_text.specs.declared.LogLine.TheVariants as line
+use Rattle.log_text.specs.declared.NewIds.{NewIds}
 use Rattle.log_text.specs.declared.Refusal.{Refusal}
 use Rattle.log_text.specs.declared.Refusal.TheVariants as refusal
-use Rattle.log_text.specs.Lines.{line_words, file_word, kept_word, why_word, pair_words, how_words, shape_words, use_words, refusal_words, pass_words, point_words, place_words, places_words, change_words, asked_words, reason_words}
+use Rattle.log_text.specs.Lines.{line_words, new_ids_words, file_word, kept_word, why_word, pair_words, how_words, shape_words, use_words, refusal_words, pass_words, point_words, place_words, places_words, change_words, asked_words, reason_words}
 use Rattle.line_text.specs.Spellings.{spaced_words}
 use Rattle.mesh_base.proofs.MeshLaws.{few_vertices_of, few_faces_of}
 use Rattle.log_read.specs.Reading.{rounds_most}
-use Rattle.log_read.specs.Laws.{IsFrom, IsPairInRange, IsHowInRange, IsShapeInRange, IsUseInRange, IsRefusalInRange, IsEdgeInRange, AreRising, IsPassInRange, IsChangeInRange, IsAskedInRange, IsReasonInRange, IsInRange, IsOfVersion}
+use Rattle.log_read.specs.Laws.{IsFrom, IsPairInRange, IsHowInRange, IsShapeInRange, IsUseInRange, IsRefusalInRange, IsEdgeInRange, AreRisingTo, AreNewIds, IsPassInRange, IsChangeInRange, IsAskedInRange, IsReasonInRange, IsInRange, IsOfVersion}
 use Rattle.log_read.proofs.Scales.{small_rounds}
 
 -- each byte is above that of a space
@@ -145,9 +146,12 @@ graphic-append : (xs ys : List (List ℕ)) → AreGraphic xs → AreGraphic ys �
 graphic-append [] ys p q = q
 graphic-append (x ∷ xs) ys p q = (p.0, graphic-append xs ys p.1 q)
 
-ids_graphic : (low : ℕ) (ids : List ℕ) → AreRising low ids → AreGraphic (map decimal ids)
-ids_graphic low [] r = tt
-ids_graphic low (v ∷ ids) r = (up_to low ID_MAX v (lit< tt) r.0, ids_graphic (v + 1) ids r.1)
+ids_graphic : (most low : ℕ) (ids : List ℕ) → most < 2 ^ 64 → AreRisingTo most low ids → AreGraphic (map decimal ids)
+ids_graphic most low [] small r = tt
+ids_graphic most low (v ∷ ids) small r = (up_to low most v small r.0, ids_graphic most (v + 1) ids small r.1)
+
+new_ids_graphic : (new : NewIds) → AreNewIds new → AreGraphic (new_ids_words new)
+new_ids_graphic new r = (up_to 1 (ID_MAX + 1) new.next (lit< tt) r.next, ids_graphic (new.next - 1) 1 new.ids (omega (arith, r.next.1)) r.ids)
 
 length_graphic : (n : ℕ) → n ≤ LENGTH_MAX → IsGraphic (decimal n)
 length_graphic n r = number n (omega (arith, r))
@@ -203,7 +207,7 @@ line_graphic scale version small (line.First v) r e = (text (codes "topo") refl,
 line_graphic scale version small (line.Mesh k v f) r e = (text (codes "mesh") refl, (number k (omega (arith, r.0)), (number v (omega (arith, r.1, few_vertices_of scale)), (number f (omega (arith, r.2, few_faces_of scale)), tt))))
 line_graphic scale version small (line.Step k) r e = (text (codes "step") refl, (count k r, tt))
 line_graphic scale version small (line.Hit pair) r e = (text (codes "hit") refl, pair_graphic pair r)
-line_graphic scale version small (line.Block ids) r e = (text (codes "block") refl, ids_graphic 1 ids r.1)
+line_graphic scale version small (line.Block ids) r e = (text (codes "block") refl, ids_graphic ID_MAX 1 ids (lit< tt) r.1)
 line_graphic scale version small (line.Move s) r e = (text (codes "move") refl, (id s.v r, (shift_part s.by.x s.by.in_range.x_fits, (shift_part s.by.y s.by.in_range.y_fits, (shift_part s.by.z s.by.in_range.z_fits, tt)))))
 line_graphic scale version small (line.Moved how) r e = (text (codes "moved") refl, how_graphic scale how r)
 line_graphic scale version small (line.Pass kind) r e = (text (codes "pass") refl, pass_graphic kind r)
@@ -211,6 +215,8 @@ line_graphic scale version small line.PassFit r e = (text (codes "pass") refl, (
 line_graphic scale version small (line.Did done) r e = change_graphic done r
 line_graphic scale version small (line.No what w) r e = (text (codes "no") refl, graphic-append (asked_words what) (reason_words w) (asked_graphic what r.0) (reason_graphic w r.1))
 line_graphic scale version small (line.Refused w) r e = (text (codes "refused") refl, refusal_graphic w r)
+line_graphic scale version small (line.Vertices new) r e = (text (codes "vertices") refl, new_ids_graphic new r)
+line_graphic scale version small (line.Faces new) r e = (text (codes "faces") refl, new_ids_graphic new r)
 line_graphic scale version small (line.Solid v) r e = (text (codes "solid") refl, (id v r, tt))
 line_graphic scale version small line.Group r e = (text (codes "group") refl, tt)
 line_graphic scale version small (line.Close kept) r e = (text (codes "close") refl, (kept_graphic kept, tt))
@@ -250,6 +256,8 @@ some_words line.PassFit = omega arith
 some_words (line.Did done) = some_change done
 some_words (line.No what w) = omega arith
 some_words (line.Refused w) = omega arith
+some_words (line.Vertices new) = omega arith
+some_words (line.Faces new) = omega arith
 some_words (line.Solid v) = omega arith
 some_words line.Group = omega arith
 some_words (line.Close kept) = omega arith

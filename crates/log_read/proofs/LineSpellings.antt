@@ -1,7 +1,7 @@
 -- Each line is read exactly from its words.
-use Rattle.std.proofs.Common.{◌≡◌, ℕ, ◌<◌, ◌≤◌, ◌^◌, Bool, true, false, List, [], ◌∷◌, length, Option, Some, None, Result, Ok, Err, refl, sym, ap, subst, ◌∙◌, arith, lit<}
+use Rattle.std.proofs.Common.{◌≡◌, ℕ, ◌<◌, ◌≤◌, ◌^◌, ◌==◌, Bool, true, false, List, [], ◌∷◌, length, Option, Some, None, Result, Ok, Err, refl, sym, ap, subst, ◌∙◌, arith, lit<}
 use Rattle.std.specs.Prelude.{decimal, codes, if◌then◌else◌}
-use Rattle.std.proofs.lemmas.Bool.{eqb-true}
+use Rattle.std.proofs.lemmas.Bool.{eqb-true, eq-eqb}
 use Rattle.grid_base.specs.declared.TheConstants.{ID_MAX, HALVINGS_MAX}
 use Rattle.line_text.specs.declared.TextWhy.{TextWhy}
 use Rattle.line_text.specs.declared.TextWhy.TheVariants as why
@@ -15,7 +15,7 @@ use Rattle.mesh_base.specs.declared.ShapeFault.TheVariants as shape
 use Rattle.mesh_base.specs.declared.UseWhy.{UseWhy}
 use Rattle.mesh_base.specs.declared.UseWhy.TheVariants as using
 use Rattle.mesh_base.specs.Limits.{limits_of}
-use Rattle.log_text.specs.declared.TheConstants.{COUNT_MAX, SEEN_MAX, CORNER_MAX, PASSES_MAX, VERSION}
+use Rattle.log_text.specs.declared.TheConstants.{COUNT_MAX, SEEN_MAX, CORNER_MAX, PASSES_MAX, IDS_VERSION}
 use Rattle.log_text.specs.declared.LogLine.{LogLine}
 use Rattle.log_text.specs.declared.LogLine.TheVariants as line
 use Rattle.log_text.specs.declared.Refusal.{Refusal}
@@ -23,14 +23,14 @@ use Rattle.log_text.specs.declared.Refusal.TheVariants as refusal
 use Rattle.line_text.specs.Spellings.{spelled_number, spelled_from, spelled_at, count_with_end}
 use Rattle.log_read.specs.Fields.{Reader, both}
 use Rattle.log_text.specs.Lines.{line_words, file_word, kept_word, how_words, shape_words, use_words, refusal_words}
-use Rattle.log_read.specs.Values.{is_latest, whole, without_more_words, shift_of_at}
+use Rattle.log_read.specs.Values.{is_later, whole, without_more_words, shift_of_at}
 use Rattle.log_read.specs.Reading.{rounds_most, first_of, mesh_of, step_of, hit_of, move_of, moved_of, or_unknown, file_of, refused, long_of, missing_of, shape_of, use_numbers, use_line, why_of_use, use_of, refused_of, solid_of, close_of, plain_of, line_of}
 use Rattle.log_read.specs.EditLines.{edit_of}
 use Rattle.edit_base.specs.declared.Change.TheVariants as change
 use Rattle.log_read.specs.Laws.{IsFrom, IsHowInRange, IsShapeInRange, IsWhyOf, IsFileOfVersion, IsUseInRange, IsRefusalInRange, IsInRange, IsUseOfVersion, IsRefusalOfVersion, IsOfVersion}
 use Rattle.line_text.proofs.ReadSteps.{bound, ok_same, picked, picked_if, fault_value}
 use Rattle.log_read.proofs.LineForms.{IsSpelling, again, spelled, alone_again, alone_spelled, number_of, one_again, one_spelled, Two, two_again, two_spelled, pair_again, pair_spelled, fault_again, fault_spelled}
-use Rattle.log_read.proofs.EditLineSpellings.{pass_again, fit_again, split_again, flip_again, collapse_again, zip_again, no_again, block_again, pinch_again, edit_back, block_back, pinch_back}
+use Rattle.log_read.proofs.EditLineSpellings.{pass_again, fit_again, split_again, flip_again, collapse_again, zip_again, no_again, block_again, new_ids_again, pinch_again, edit_back, block_back, new_ids_back, pinch_back}
 use Rattle.log_read.proofs.Scales.{small_vertices, small_faces, small_rounds}
 use Rattle.log_read.proofs.Exactness.{IsExact, count_with_end-length, count_with_end-of_read, word_number-decimal, word_number-some}
 use Rattle.log_read.proofs.Spellings.{three_numbers, shift_of_at-exact, shift_of_words, file_of-word, file_of-some}
@@ -83,7 +83,7 @@ used_again version at (using.NoVertex v) r o = use_again using.NoVertex at v r.0
 used_again version at (using.ShiftRange v) r o = use_again using.ShiftRange at v r.0 r.1
 used_again version at (using.Box v) r o = use_again using.Box at v r.0 r.1
 used_again version at using.NoField r o = field_again at r.0
-used_again version at (using.Solid v) r o = let P : ℕ → Type 0 = λ n. use_of n true (decimal at ∷ codes "solid" ∷ decimal v ∷ []) ≡ Ok (line.Refused (refusal.StepUse at (using.Solid v))) in subst P (sym o) (use_again using.Solid at v r.0 r.1)
+used_again version at (using.Solid v) r o = rw o (use_again using.Solid at v r.0 r.1)
 
 refused_again : (version : ℕ) (w : Refusal) → IsRefusalInRange w → IsRefusalOfVersion version w → refused_of version true (refusal_words w) ≡ Ok (line.Refused w)
 unfolding refused_of
@@ -92,7 +92,7 @@ refused_again version (refusal.Missing name) r o = missing_again version name o
 refused_again version (refusal.Mesh fault) r o = fault_again false (λ f. line.Refused (refusal.Mesh f)) fault r
 refused_again version (refusal.Shape fault) r o = shape_again fault r
 refused_again version (refusal.Meets pair) r o = pair_again (λ p. line.Refused (refusal.Meets p)) pair r
-refused_again version (refusal.Steps fault) r o = fault_again (is_latest version) (λ f. line.Refused (refusal.Steps f)) fault (r.0, o)
+refused_again version (refusal.Steps fault) r o = fault_again (is_later version) (λ f. line.Refused (refusal.Steps f)) fault (r.0, o)
 refused_again version (refusal.StepUse at w) r o = used_again version at w r o
 
 solid_again : (v : ℕ) → IsFrom 1 ID_MAX v → solid_of true (decimal v ∷ []) ≡ Ok (line.Solid v)
@@ -137,7 +137,7 @@ printed_is_read scale version small (line.Block ids) r e = block_again ids r
 printed_is_read scale version small (line.Move s) r e = again shift_of_at shift_of_words (λ s. IsFrom 1 ID_MAX s.v) shift_of_at-exact 4 (λ s. refl) line.Move s r
 printed_is_read scale version small (line.Moved how) r e = moved_again scale how r
 printed_is_read scale version small (line.Pass kind) r e = pass_again version kind r
-printed_is_read scale version small line.PassFit r e = let P : ℕ → Type 0 = λ n. line_of scale n true (line_words line.PassFit) ≡ Ok line.PassFit in subst P (sym e) fit_again
+printed_is_read scale version small line.PassFit r e = fit_again version e
 printed_is_read scale version small (line.Did (change.Split a b w at)) r e = split_again a b w at r
 printed_is_read scale version small (line.Did (change.Flip a b)) r e = flip_again a b r
 printed_is_read scale version small (line.Did (change.Collapse a b at)) r e = collapse_again a b at r
@@ -145,9 +145,11 @@ printed_is_read scale version small (line.Did (change.Zip a b e f turn)) r h = z
 printed_is_read scale version small (line.Did (change.Pinch v at copies)) r e = pinch_again v at copies r
 printed_is_read scale version small (line.No what w) r e = no_again version what w (r.0, (r.1, e))
 printed_is_read scale version small (line.Refused w) r e = refused_again version w r e
-printed_is_read scale version small (line.Solid v) r e = let P : ℕ → Type 0 = λ n. line_of scale n true (line_words (line.Solid v)) ≡ Ok (line.Solid v) in subst P (sym e) (solid_again v r)
-printed_is_read scale version small line.Group r e = let P : ℕ → Type 0 = λ n. line_of scale n true (line_words line.Group) ≡ Ok line.Group in subst P (sym e) (alone_again line.Group)
-printed_is_read scale version small (line.Close kept) r e = let P : ℕ → Type 0 = λ n. line_of scale n true (line_words (line.Close kept)) ≡ Ok (line.Close kept) in subst P (sym e) (close_again kept)
+printed_is_read scale version small (line.Vertices new) r e = rw (eq-eqb version IDS_VERSION e, new_ids_again new r) refl
+printed_is_read scale version small (line.Faces new) r e = rw (eq-eqb version IDS_VERSION e, new_ids_again new r) refl
+printed_is_read scale version small (line.Solid v) r e = rw e (solid_again v r)
+printed_is_read scale version small line.Group r e = rw e (alone_again line.Group)
+printed_is_read scale version small (line.Close kept) r e = rw e (close_again kept)
 printed_is_read scale version small line.End r e = alone_again line.End
 
 -- ---- what is read is spelled so
@@ -268,7 +270,7 @@ use_back scale version ended (at ∷ word ∷ words) l h =
     (picked P word (codes "range") _ _ (Ok l) (use_spelled scale version using.ShiftRange (codes "range") (λ v. refl) (λ v r. r) (λ v. tt) ended at words l)
     (picked P word (codes "box") _ _ (Ok l) (use_spelled scale version using.Box (codes "box") (λ v. refl) (λ v r. r) (λ v. tt) ended at words l)
     (picked P word (codes "field") _ _ (Ok l) (field_spelled scale version ended at words l)
-    (picked_if P word (codes "solid") (is_latest version) _ _ (Ok l) (λ t. use_spelled scale version using.Solid (codes "solid") (λ v. refl) (λ v r. r) (λ v. eqb-true version VERSION t) ended at words l)
+    (picked_if P word (codes "solid") (is_later version) _ _ (Ok l) (λ t. use_spelled scale version using.Solid (codes "solid") (λ v. refl) (λ v r. r) (λ v. t) ended at words l)
     (misspelt ended l)))))
     h
 
@@ -288,7 +290,7 @@ refused_back scale version ended (word ∷ words) l h =
     (picked P word (codes "mesh") _ _ (Ok l) (fault_spelled scale version false (λ f. line.Refused (refusal.Mesh f)) (codes "refused" ∷ codes "mesh" ∷ []) (λ f r. (refl, r, tt)) ended words l)
     (picked P word (codes "shape") _ _ (Ok l) (shape_back scale version ended words l)
     (picked P word (codes "meets") _ _ (Ok l) (pair_spelled scale version (λ p. line.Refused (refusal.Meets p)) (codes "refused" ∷ codes "meets" ∷ []) (λ p r. (refl, r, tt)) ended words l)
-    (picked P word (codes "steps") _ _ (Ok l) (fault_spelled scale version (is_latest version) (λ f. line.Refused (refusal.Steps f)) (codes "refused" ∷ codes "steps" ∷ []) (λ f r. (refl, (r.0, any_groups (is_latest version) f.why r.1), r.1)) ended words l)
+    (picked P word (codes "steps") _ _ (Ok l) (fault_spelled scale version (is_later version) (λ f. line.Refused (refusal.Steps f)) (codes "refused" ∷ codes "steps" ∷ []) (λ f r. (refl, (r.0, any_groups (is_later version) f.why r.1), r.1)) ended words l)
     (picked P word (codes "use") _ _ (Ok l) (use_back scale version ended words l)
     (fault_value why.Unknown l)))))))
     h
@@ -297,7 +299,7 @@ mesh_back : (scale : Scale) (version : ℕ) (ended : Bool) (words : List (List �
 unfolding mesh_of
 mesh_back scale version ended words l h = spelled (mesh_reader scale) three (MeshFits scale) (mesh_exact scale) 3 (λ p. refl) mesh_made scale version (codes "mesh" ∷ []) (λ p r. (refl, (r.0.1, r.1.0.1, r.1.1.1), tt)) ended words l h
 
-close_back : (scale : Scale) (version : ℕ) → version ≡ VERSION → (ended : Bool) (words : List (List ℕ)) (l : LogLine) → close_of ended words ≡ Ok l → IsSpelling scale version ended (codes "close" ∷ words) l
+close_back : (scale : Scale) (version : ℕ) → is_later version ≡ true → (ended : Bool) (words : List (List ℕ)) (l : LogLine) → close_of ended words ≡ Ok l → IsSpelling scale version ended (codes "close" ∷ words) l
 unfolding close_of
 close_back scale version e ended [] l h = fault_value why.Short l h
 close_back scale version e ended (word ∷ words) l h =
@@ -319,9 +321,9 @@ plain_back scale version small ended first words l h =
     (picked P first (codes "moved") _ _ (Ok l) (moved_back scale version ended words l)
     (picked P first (codes "refused") _ _ (Ok l) (refused_back scale version ended words l)
     (picked P first (codes "end") _ _ (Ok l) (alone_spelled scale version (codes "end" ∷ []) ended line.End words l refl tt tt)
-    (picked_if P first (codes "solid") (is_latest version) _ _ (Ok l) (λ t. one_spelled scale version 1 ID_MAX (lit< tt) line.Solid (codes "solid" ∷ []) (λ n r. (refl, r, eqb-true version VERSION t)) ended words l)
-    (picked_if P first (codes "group") (is_latest version) _ _ (Ok l) (λ t. alone_spelled scale version (codes "group" ∷ []) ended line.Group words l refl tt (eqb-true version VERSION t))
-    (picked_if P first (codes "close") (is_latest version) _ _ (Ok l) (λ t. close_back scale version (eqb-true version VERSION t) ended words l)
+    (picked_if P first (codes "solid") (is_later version) _ _ (Ok l) (λ t. one_spelled scale version 1 ID_MAX (lit< tt) line.Solid (codes "solid" ∷ []) (λ n r. (refl, r, t)) ended words l)
+    (picked_if P first (codes "group") (is_later version) _ _ (Ok l) (λ t. alone_spelled scale version (codes "group" ∷ []) ended line.Group words l refl tt (t))
+    (picked_if P first (codes "close") (is_later version) _ _ (Ok l) (λ t. close_back scale version (t) ended words l)
     (edit_back scale version ended first words l)))))))))))
     h
 
@@ -333,5 +335,7 @@ read_is_spelled scale version small ended (first ∷ words) l h =
     let P : List ℕ → Type 0 = λ w. IsSpelling scale version ended (w ∷ words) l in
     picked P first (codes "block") _ _ (Ok l) (block_back scale version ended words l)
     (picked P first (codes "pinch") _ _ (Ok l) (pinch_back scale version ended words l)
-    (plain_back scale version small ended first words l))
+    (picked_if P first (codes "vertices") (version == IDS_VERSION) _ _ (Ok l) (λ t. new_ids_back scale version (codes "vertices") line.Vertices (λ new. refl) (λ new r. r) (λ new. eqb-true version IDS_VERSION t) ended words l)
+    (picked_if P first (codes "faces") (version == IDS_VERSION) _ _ (Ok l) (λ t. new_ids_back scale version (codes "faces") line.Faces (λ new. refl) (λ new r. r) (λ new. eqb-true version IDS_VERSION t) ended words l)
+    (plain_back scale version small ended first words l))))
     h

@@ -1,11 +1,10 @@
 -- Lists of ids, and of vertices with their points, are read exactly.
-use Rattle.std.proofs.Common.{◌≡◌, ℕ, ◌+◌, ◌<◌, ◌≤◌, Bool, true, ltb, List, [], ◌∷◌, ◌++◌, length, drop, map, Result, Ok, Err, refl, sym, ap, ◌∙◌, arith, lit<, append_assoc}
+use Rattle.std.proofs.Common.{◌≡◌, ℕ, ◌+◌, ◌<◌, ◌≤◌, ◌^◌, Bool, true, ltb, List, [], ◌∷◌, ◌++◌, length, drop, map, Result, Ok, Err, refl, sym, ap, ◌∙◌, arith, lit<, append_assoc}
 use Rattle.std.specs.Prelude.{decimal, if◌then◌else◌}
 use Rattle.std.specs.List.{AllByRecursion}
 use Rattle.std.proofs.lemmas.Bool.{le-ltb, ltb-false}
 use Rattle.std.proofs.lemmas.List.{append-nil}
 use Rattle.edit_base.specs.declared.CopyAt.{CopyAt}
-use Rattle.grid_base.specs.declared.TheConstants.{ID_MAX}
 use Rattle.line_text.specs.declared.TextWhy.{TextWhy}
 use Rattle.line_text.specs.declared.TextWhy.TheVariants.{Short}
 use Rattle.line_text.specs.Faults.{◌>>=◌}
@@ -13,7 +12,7 @@ use Rattle.line_text.specs.Spellings.{spelled_number, spelled_from}
 use Rattle.log_text.specs.Lines.{place_words, places_words}
 use Rattle.log_read.specs.Values.{place_at}
 use Rattle.log_read.specs.EditLines.{at_least, ids_add, four_by_four, places_add, first_place}
-use Rattle.log_read.specs.Laws.{AreRising}
+use Rattle.log_read.specs.Laws.{AreRisingTo}
 use Rattle.line_text.proofs.ReadSteps.{bound, ok_same, by_test, fault_value}
 use Rattle.log_read.proofs.Exactness.{word_number-some, word_number-decimal}
 use Rattle.log_read.proofs.EditSpellings.{PlaceFits, place_at-exact}
@@ -35,31 +34,32 @@ at_least-of_read ended count words u h =
 -- ---- ids
 
 -- the ids that were added to those so far
-pub record IdsAdded (before : List ℕ) (low : ℕ) (words : List (List ℕ)) (ids : List ℕ) : Type 0 where
+pub record IdsAdded (most : ℕ) (before : List ℕ) (low : ℕ) (words : List (List ℕ)) (ids : List ℕ) : Type 0 where
   pub more : List ℕ
   pub all : ids ≡ before ++ more
   pub same : words ≡ map decimal more
-  pub rising : AreRising low more
+  pub rising : AreRisingTo most low more
 
-pub ids_add-of_read : (before : List ℕ) (low : ℕ) (words : List (List ℕ)) (ids : List ℕ) → ids_add before low words ≡ Ok ids → IdsAdded before low words ids
-ids_add-of_read before low [] ids h = record { more = []; all = sym (ok_same before ids h) ∙ sym (append-nil before); same = refl; rising = tt }
-ids_add-of_read before low (word ∷ words) ids h =
-    let b = bound (spelled_from low ID_MAX (spelled_number word)) (λ (v : ℕ). ids_add (before ++ v ∷ []) (v + 1) words) ids h in
-    let s = word_number-some low ID_MAX b.value word (lit< tt) b.first in
-    let i = ids_add-of_read (before ++ b.value ∷ []) (b.value + 1) words ids b.after in
-    record {
-      more = b.value ∷ i.more;
-      all = i.all ∙ append_assoc before (b.value ∷ []) i.more;
-      same = ap (λ (w : List ℕ). w ∷ words) s.0 ∙ ap (λ (t : List (List ℕ)). decimal b.value ∷ t) i.same;
-      rising = ((s.1, s.2), i.rising);
-    }
+module _ (most : ℕ) (small : most < 2 ^ 64) where
+  pub ids_add-of_read : (before : List ℕ) (low : ℕ) (words : List (List ℕ)) (ids : List ℕ) → ids_add most before low words ≡ Ok ids → IdsAdded most before low words ids
+  ids_add-of_read before low [] ids h = record { more = []; all = sym (ok_same before ids h) ∙ sym (append-nil before); same = refl; rising = tt }
+  ids_add-of_read before low (word ∷ words) ids h =
+      let b = bound (spelled_from low most (spelled_number word)) (λ (v : ℕ). ids_add most (before ++ v ∷ []) (v + 1) words) ids h in
+      let s = word_number-some low most b.value word small b.first in
+      let i = ids_add-of_read (before ++ b.value ∷ []) (b.value + 1) words ids b.after in
+      record {
+        more = b.value ∷ i.more;
+        all = i.all ∙ append_assoc before (b.value ∷ []) i.more;
+        same = ap (λ (w : List ℕ). w ∷ words) s.0 ∙ ap (λ (t : List (List ℕ)). decimal b.value ∷ t) i.same;
+        rising = ((s.1, s.2), i.rising);
+      }
 
-pub ids_add-of_written : (before : List ℕ) (low : ℕ) (ids : List ℕ) → AreRising low ids → ids_add before low (map decimal ids) ≡ Ok (before ++ ids)
-ids_add-of_written before low [] r = ap Ok (sym (append-nil before))
-ids_add-of_written before low (v ∷ ids) r =
-    ap (λ (found : Result ℕ TextWhy). found >>= λ v. ids_add (before ++ v ∷ []) (v + 1) (map decimal ids)) (word_number-decimal low ID_MAX v r.0.0 r.0.1 (lit< tt))
-    ∙ ids_add-of_written (before ++ v ∷ []) (v + 1) ids r.1
-    ∙ ap Ok (append_assoc before (v ∷ []) ids)
+  pub ids_add-of_written : (before : List ℕ) (low : ℕ) (ids : List ℕ) → AreRisingTo most low ids → ids_add most before low (map decimal ids) ≡ Ok (before ++ ids)
+  ids_add-of_written before low [] r = ap Ok (sym (append-nil before))
+  ids_add-of_written before low (v ∷ ids) r =
+      ap (λ (found : Result ℕ TextWhy). found >>= λ v. ids_add most (before ++ v ∷ []) (v + 1) (map decimal ids)) (word_number-decimal low most v r.0.0 r.0.1 small)
+      ∙ ids_add-of_written (before ++ v ∷ []) (v + 1) ids r.1
+      ∙ ap Ok (append_assoc before (v ∷ []) ids)
 
 -- ---- vertices and their points
 

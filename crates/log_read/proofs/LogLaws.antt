@@ -1,6 +1,6 @@
 -- Lines are read exactly from their bodies, and logs from the texts of their lines.
 use Rattle.std.proofs.Common.{◌≡◌, ℕ, suc, ◌+◌, ◌<◌, ◌^◌, Bool, true, false, eqb, List, [], ◌∷◌, ◌++◌, length, Result, Ok, Err, refl, sym, ap, subst, ◌∙◌, arith, lit<, append_assoc}
-use Rattle.std.specs.Prelude.{All, codes}
+use Rattle.std.specs.Prelude.{All, codes, if◌then◌else◌}
 use Rattle.std.specs.List.{AllByRecursion, join_with_byte}
 use Rattle.std.specs.Str.{bytes_eq}
 use Rattle.std.proofs.lemmas.Bool.{eqb-true, false≢true}
@@ -11,18 +11,19 @@ use Rattle.line_text.specs.declared.TextWhy.{TextWhy}
 use Rattle.line_text.specs.Faults.{◌>>=◌, at_line}
 use Rattle.line_text.specs.Spellings.{spaced_words}
 use Rattle.mesh_base.specs.declared.Scale.{Scale}
-use Rattle.log_text.specs.declared.TheConstants.{VERSION, OLD_VERSION}
+use Rattle.log_text.specs.declared.TheConstants.{VERSION, IDS_VERSION, OLD_VERSION}
 use Rattle.log_text.specs.declared.LogLine.{LogLine}
 use Rattle.log_text.specs.declared.LogLine.TheVariants.{First}
 use Rattle.log_text.specs.Lines.{line_words, body_of, text_of_lines}
-use Rattle.log_read.specs.Reading.{line_of, line_adds, parts_add, parts_of_text, version_in, version_of}
-use Rattle.log_read.specs.Laws.{IsInRange, IsOfVersion, NamesNoOther, IsLineOf, LinesAreTheirSpellings, BodiesHaveNoEnd, LogsAreTheirLines, WrittenLogsAreRead}
+use Rattle.log_read.specs.Values.{is_later}
+use Rattle.log_read.specs.Reading.{line_of, line_adds, parts_add, parts_of_text, version_in, version_of, log_of}
+use Rattle.log_read.specs.Laws.{IsInRange, IsOfVersion, NamesOnly, IsLineOf, LinesAreTheirSpellings, BodiesHaveNoEnd, LogsAreTheirLines, WrittenLogsAreRead, NumberedLogsAreRead}
 use Rattle.line_text.proofs.ReadSteps.{bound, ok_same, by_test, fault_value}
 use Rattle.log_read.proofs.Latest.{latest_line}
 use Rattle.log_read.proofs.LineForms.{IsSpelling}
 use Rattle.log_read.proofs.LineSpellings.{printed_is_read, read_is_spelled}
 use Rattle.log_read.proofs.GraphicWords.{line_graphic, words_again, some_words, has_no_end, is_no_end}
-use Rattle.log_read.proofs.LogParts.{some_parts, parts_more, latest_body, version_named}
+use Rattle.log_read.proofs.LogParts.{some_parts, parts_more, latest_body, numbered_body, version_named, version_numbered}
 
 -- ---- one line
 
@@ -106,7 +107,12 @@ read_again scale version small (l ∷ ls) before number h =
 
 small_in : (parts : List (List ℕ)) → version_in parts < 2 ^ 8
 small_in [] = lit< tt
-small_in (first ∷ parts) = by_test (bytes_eq first (body_of (First VERSION))) VERSION OLD_VERSION (version_in (first ∷ parts)) (λ t e. let P : ℕ → Type 0 = λ n. n < 2 ^ 8 in subst P e (lit< tt)) (λ t e. let P : ℕ → Type 0 = λ n. n < 2 ^ 8 in subst P e (lit< tt)) refl
+small_in (first ∷ parts) =
+    let P : ℕ → Type 0 = λ n. n < 2 ^ 8 in
+    by_test (bytes_eq first (body_of (First VERSION))) VERSION (if bytes_eq first (body_of (First IDS_VERSION)) then IDS_VERSION else OLD_VERSION) (version_in (first ∷ parts))
+    (λ t e. subst P e (lit< tt))
+    (λ t e. subst P e (by_test (bytes_eq first (body_of (First IDS_VERSION))) IDS_VERSION OLD_VERSION _ (λ u f. subst P f (lit< tt)) (λ u f. subst P f (lit< tt)) refl))
+    refl
 
 pub logs_are_their_lines_lem : LogsAreTheirLines
 logs_are_their_lines_lem scale bytes ls =
@@ -118,10 +124,20 @@ logs_are_their_lines_lem scale bytes ls =
       (λ h. ap (λ (t : List ℕ). parts_add scale version [] 1 (parts_of_text t)) (sym h.1) ∙ read_again scale version small ls [] 1 (recursion_from_All (IsLineOf scale version) ls h.0)),
     )
 
+-- the text of a log whose first line names a version by which it is read
+written_again : (scale : Scale) (version : ℕ) → version < 2 ^ 8 → is_later version ≡ true → ((first : List ℕ) (parts : List (List ℕ)) (bytes : List ℕ) → parts_of_text bytes ≡ first ∷ parts → body_of (First version) ≡ first → version ≡ version_of bytes)
+    → (ls : List LogLine) → All (λ l. IsInRange scale l × NamesOnly version l) ls → log_of scale (text_of_lines (First version ∷ ls)) ≡ Ok (First version ∷ ls)
+written_again scale version small later names ls h =
+    let text = text_of_lines (First version ∷ ls) in
+    let here : IsLineOf scale version (First version) = (tt, refl) in
+    let named : version ≡ version_of text = names (body_of (First version)) (parts_of_text (text_of_lines ls)) text (first_part scale version small (First version) ls here) refl in
+    ap (λ v. parts_add scale v [] 1 (parts_of_text text)) (sym named) ∙ read_again scale version small (First version ∷ ls) [] 1 (here, recursion_from_All (IsLineOf scale version) ls (All-weaker (λ l. IsInRange scale l × NamesOnly version l) (IsLineOf scale version) (λ l r. (r.0, latest_line version later scale l r.0 r.1)) ls h))
+
 pub written_logs_are_read_lem : WrittenLogsAreRead
-written_logs_are_read_lem scale ls h =
-    let small : VERSION < 2 ^ 8 = lit< tt in
-    let text = text_of_lines (First VERSION ∷ ls) in
-    let here : IsLineOf scale VERSION (First VERSION) = (tt, refl) in
-    let named : VERSION ≡ version_of text = version_named text (body_of (First VERSION)) (parts_of_text (text_of_lines ls)) (first_part scale VERSION small (First VERSION) ls here) (ap (λ (b : List ℕ). bytes_eq b (codes "topo log 2")) latest_body) in
-    ap (λ v. parts_add scale v [] 1 (parts_of_text text)) (sym named) ∙ read_again scale VERSION small (First VERSION ∷ ls) [] 1 (here, recursion_from_All (IsLineOf scale VERSION) ls (All-weaker (λ l. IsInRange scale l × NamesNoOther l) (IsLineOf scale VERSION) (λ l r. (r.0, latest_line scale l r.0 r.1)) ls h))
+written_logs_are_read_lem scale ls h = written_again scale VERSION (lit< tt) refl (λ first parts bytes cut is. version_named bytes first parts cut (ap (λ (b : List ℕ). bytes_eq b (codes "topo log 2")) (sym is ∙ latest_body))) ls h
+
+pub numbered_logs_are_read_lem : NumberedLogsAreRead
+numbered_logs_are_read_lem scale ls h =
+    written_again scale IDS_VERSION (lit< tt) refl
+    (λ first parts bytes cut is. version_numbered bytes first parts cut (ap (λ (b : List ℕ). bytes_eq b (codes "topo log 2")) (sym is ∙ numbered_body)) (ap (λ (b : List ℕ). bytes_eq b (codes "topo log 3")) (sym is ∙ numbered_body)))
+    ls h

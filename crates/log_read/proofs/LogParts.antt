@@ -10,7 +10,7 @@ use Rattle.line_text.specs.declared.ReadFault.{ReadFault}
 use Rattle.line_text.specs.declared.ReadFault.TheVariants as faults
 use Rattle.line_text.specs.Faults.{◌>>=◌, at_line, Fails}
 use Rattle.mesh_base.specs.declared.Scale.{Scale}
-use Rattle.log_text.specs.declared.TheConstants.{VERSION, OLD_VERSION}
+use Rattle.log_text.specs.declared.TheConstants.{VERSION, IDS_VERSION, OLD_VERSION}
 use Rattle.log_text.specs.declared.LogLine.{LogLine}
 use Rattle.log_text.specs.declared.LogLine.TheVariants.{First}
 use Rattle.log_text.specs.Lines.{body_of}
@@ -25,22 +25,30 @@ pub parts_more : (scale : Scale) (version : ℕ) (lines : List LogLine) (number 
 parts_more scale version lines number part [] h = absurd (omega arith)
 parts_more scale version lines number part (next ∷ parts) h = refl
 
--- the line that names the version that is written
+-- the lines that name a version
 pub latest_body : body_of (First VERSION) ≡ codes "topo log 2"
 latest_body = ap (λ (w : List ℕ). join_with_byte 32 (codes "topo" ∷ codes "log" ∷ w ∷ [])) (sym (spelled_number-some (codes "2") 2 (lit< tt) refl))
 
+pub numbered_body : body_of (First IDS_VERSION) ≡ codes "topo log 3"
+numbered_body = ap (λ (w : List ℕ). join_with_byte 32 (codes "topo" ∷ codes "log" ∷ w ∷ [])) (sym (spelled_number-some (codes "3") 3 (lit< tt) refl))
+
 module _ (bytes first : List ℕ) (parts : List (List ℕ)) (cut : parts_of_text bytes ≡ first ∷ parts) where
-  named : (t : Bool) → bytes_eq first (codes "topo log 2") ≡ t → version_of bytes ≡ (if t then VERSION else OLD_VERSION)
-  named t h =
+  named : (t u : Bool) → bytes_eq first (codes "topo log 2") ≡ t → bytes_eq first (codes "topo log 3") ≡ u → version_of bytes ≡ (if t then VERSION else if u then IDS_VERSION else OLD_VERSION)
+  named t u h k =
       let e : bytes_eq first (body_of (First VERSION)) ≡ t = ap (bytes_eq first) latest_body ∙ h in
-      ap version_in cut ∙ ap (λ (b : Bool). if b then VERSION else OLD_VERSION) e
+      let f : bytes_eq first (body_of (First IDS_VERSION)) ≡ u = ap (bytes_eq first) numbered_body ∙ k in
+      ap version_in cut ∙ ap (λ (b : Bool). if b then VERSION else if bytes_eq first (body_of (First IDS_VERSION)) then IDS_VERSION else OLD_VERSION) e
+      ∙ ap (λ (b : Bool). if t then VERSION else if b then IDS_VERSION else OLD_VERSION) f
 
   -- the version that the first part names
   pub version_named : bytes_eq first (codes "topo log 2") ≡ true → VERSION ≡ version_of bytes
-  version_named h = sym (named true h)
+  version_named h = sym (named true (bytes_eq first (codes "topo log 3")) h refl)
 
-  pub version_other : bytes_eq first (codes "topo log 2") ≡ false → OLD_VERSION ≡ version_of bytes
-  version_other h = sym (named false h)
+  pub version_numbered : bytes_eq first (codes "topo log 2") ≡ false → bytes_eq first (codes "topo log 3") ≡ true → IDS_VERSION ≡ version_of bytes
+  version_numbered h k = sym (named false true h k)
+
+  pub version_other : bytes_eq first (codes "topo log 2") ≡ false → bytes_eq first (codes "topo log 3") ≡ false → OLD_VERSION ≡ version_of bytes
+  version_other h k = sym (named false false h k)
 
 -- the lines so far and the parts that are left give what the whole text gives, and the number of the next line stays small
 pub record PartsLeft (scale : Scale) (version : ℕ) (bytes : List ℕ) (lines : List LogLine) (number : ℕ) (rest : List ℕ) : Type 0 where

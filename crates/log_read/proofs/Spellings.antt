@@ -20,7 +20,7 @@ use Rattle.log_text.specs.declared.TheConstants.{COUNT_MAX, VERSION}
 use Rattle.line_text.specs.Spellings.{spelled_at, spelled_signed_at}
 use Rattle.log_read.specs.Fields.{Reader, in_turn, both, or_number}
 use Rattle.log_text.specs.Lines.{file_word, why_word, pair_words}
-use Rattle.log_read.specs.Values.{is_latest, pair_at, shift_of_at, why_of, why_at, fault_at}
+use Rattle.log_read.specs.Values.{is_later, pair_at, shift_of_at, why_of, why_at, fault_at}
 use Rattle.log_read.specs.Reading.{file_of}
 use Rattle.log_read.specs.Laws.{IsFrom, IsPairInRange, IsWhyOf, IsFileOfVersion}
 use Rattle.line_text.proofs.ReadSteps.{bound, ok_same, some_same, picked, picked_if}
@@ -185,8 +185,8 @@ pub file_of-word : (version : ℕ) (f : FileWord) → IsFileOfVersion version f 
 unfolding file_of
 file_of-word version file.Mesh r = refl
 file_of-word version file.Steps r = refl
-file_of-word version file.Log r = let P : ℕ → Type 0 = λ n. file_of n (file_word file.Log) ≡ Some file.Log in subst P (sym r) refl
-file_of-word version file.Proof r = let P : ℕ → Type 0 = λ n. file_of n (file_word file.Proof) ≡ Some file.Proof in subst P (sym r) refl
+file_of-word version file.Log r = rw r refl
+file_of-word version file.Proof r = rw r refl
 
 pub file_of-some : (version : ℕ) (word : List ℕ) (f : FileWord) → file_of version word ≡ Some f → (word ≡ file_word f) × IsFileOfVersion version f
 unfolding file_of
@@ -196,7 +196,7 @@ file_of-some version word f h =
     let here : (g : FileWord) → IsFileOfVersion version g → ◌≡◌ {A = Option FileWord} (Some g) (Some f) → P (file_word g) = λ g r e. subst (Q (file_word g)) (some_same g f e) (refl, r) in
     picked P word (codes "mesh") (Some file.Mesh) _ (Some f) (here file.Mesh tt)
     (picked P word (codes "steps") (Some file.Steps) _ (Some f) (here file.Steps tt)
-    (picked_if P word (codes "log") (is_latest version) (Some file.Log) _ (Some f) (λ t. here file.Log (eqb-true version VERSION t))
-    (picked_if P word (codes "proof") (is_latest version) (Some file.Proof) None (Some f) (λ t. here file.Proof (eqb-true version VERSION t))
+    (picked_if P word (codes "log") (is_later version) (Some file.Log) _ (Some f) (λ t. here file.Log (t))
+    (picked_if P word (codes "proof") (is_later version) (Some file.Proof) None (Some f) (λ t. here file.Proof (t))
     (λ e. absurd (let no : ⊥ = cc in no)))))
     h

@@ -1,5 +1,5 @@
 -- The grammar of the lines that tell of blocks, passes and edits.
-use Rattle.std.specs.Prelude.{ℕ, ◌+◌, ◌&&◌, Bool, if◌then◌else◌, List, [], ◌∷◌, ◌++◌, length, drop, nat_lt, is_some, Result, Ok, Err, codes}
+use Rattle.std.specs.Prelude.{ℕ, ◌+◌, ◌-◌, ◌&&◌, Bool, if◌then◌else◌, List, [], ◌∷◌, ◌++◌, length, drop, nat_lt, is_some, Result, Ok, Err, codes}
 use Rattle.std.specs.Str.{bytes_eq}
 use Rattle.edit_base.specs.declared.Asked.TheVariants as asked
 use Rattle.edit_base.specs.declared.Change.TheVariants as change
@@ -14,8 +14,9 @@ use Rattle.line_text.specs.Spellings.{spelled_number, spelled_from, spelled_at, 
 use Rattle.log_text.specs.declared.TheConstants.{TURN_MAX}
 use Rattle.log_text.specs.declared.LogLine.{LogLine}
 use Rattle.log_text.specs.declared.LogLine.TheVariants as line
+use Rattle.log_text.specs.declared.NewIds.{NewIds}
 use Rattle.log_read.specs.Fields.{Reader, both}
-use Rattle.log_read.specs.Values.{is_latest, edge_at, position_at, place_at, reason_of, reason_at, whole, without_more_words}
+use Rattle.log_read.specs.Values.{is_later, edge_at, position_at, place_at, reason_of, reason_at, whole, without_more_words}
 
 -- ---- passes
 
@@ -23,8 +24,8 @@ use Rattle.log_read.specs.Values.{is_latest, edge_at, position_at, place_at, rea
 abbrev pub length_of : Bool → List (List ℕ) → Result ℕ TextWhy
 length_of ended words = whole ended 1 (spelled_at 0 LENGTH_MAX) words
 
--- pass: the kind, and the length of those that go by one; only the version that is
--- written tells of a pass by the sizing
+-- pass: the kind, and the length of those that go by one; the old version tells of no
+-- pass by the sizing
 unfoldable pub pass_of : ℕ → Bool → List (List ℕ) → Result LogLine TextWhy
 pass_of version ended [] = Err why.Short
 pass_of version ended (kind ∷ words) =
@@ -36,7 +37,7 @@ pass_of version ended (kind ∷ words) =
     else if bytes_eq kind (codes "zip")
     then (length_of ended words >>= λ n. Ok (line.Pass (pass.Zip n)))
     else if bytes_eq kind (codes "pinch") then without_more_words ended (line.Pass pass.Pinch) words
-    else if bytes_eq kind (codes "fit") && is_latest version then without_more_words ended line.PassFit words
+    else if bytes_eq kind (codes "fit") && is_later version then without_more_words ended line.PassFit words
     else Err why.Unknown
 
 -- ---- edits that are done
@@ -121,18 +122,33 @@ unfoldable pub at_least : Bool → ℕ → List (List ℕ) → Result (Unit {0})
 at_least ended count words =
     if nat_lt (length words) count then Err why.Short else if ended then Ok tt else Err why.Short
 
--- the ids so far, and then those that the words spell, each above the one before
-abbrev pub ids_add : List ℕ → ℕ → List (List ℕ) → Result (List ℕ) TextWhy
-ids_add ids low [] = Ok ids
-ids_add ids low (word ∷ words) =
-    spelled_from low ID_MAX (spelled_number word) >>= λ v. ids_add (ids ++ v ∷ []) (v + 1) words
+-- the ids so far, and then those that the words spell, each above the one before and none above
+-- the most
+abbrev pub ids_add : ℕ → List ℕ → ℕ → List (List ℕ) → Result (List ℕ) TextWhy
+ids_add most ids low [] = Ok ids
+ids_add most ids low (word ∷ words) =
+    spelled_from low most (spelled_number word)
+    >>= λ v. ids_add most (ids ++ v ∷ []) (v + 1) words
 
 -- two ids or more, rising
 unfoldable pub block_of : Bool → List (List ℕ) → Result LogLine TextWhy
 block_of ended words = do
   counted ← at_least ended 2 words
-  ids ← ids_add [] 1 words
+  ids ← ids_add ID_MAX [] 1 words
   Ok (line.Block ids)
+
+-- the next id, where an id or more stands after it
+unfoldable pub next_of : Bool → Reader ℕ
+next_of ended words = do
+  counted ← at_least ended 2 words
+  spelled_at 1 (ID_MAX + 1) words
+
+-- the next id, and the ids that are taken, rising and below it
+unfoldable pub new_ids_of : Bool → List (List ℕ) → Result NewIds TextWhy
+new_ids_of ended words = do
+  next ← next_of ended words
+  ids ← ids_add (next.0 - 1) [] 1 next.1
+  Ok (record { next = next.0; ids = ids })
 
 -- the words stand four by four
 abbrev pub four_by_four : List (List ℕ) → Result (Unit {0}) TextWhy

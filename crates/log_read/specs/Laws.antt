@@ -1,5 +1,5 @@
 -- When the values of a line are in their ranges, and that a line is read exactly from its spelling.
-use Rattle.std.specs.Prelude.{◌≡◌, ◌↔◌, ℕ, Bool, false, ◌+◌, ◌<◌, ◌≤◌, ◌^◌, List, [], ◌∷◌, length, Ok, All, true}
+use Rattle.std.specs.Prelude.{◌≡◌, ◌↔◌, ℕ, Bool, false, ◌+◌, ◌-◌, ◌<◌, ◌≤◌, ◌^◌, List, [], ◌∷◌, length, Ok, All, true}
 use Rattle.grid_base.specs.declared.TheConstants.{ID_MAX, HALVINGS_MAX, LENGTH_MAX}
 use Rattle.edit_base.specs.declared.Asked.{Asked}
 use Rattle.edit_base.specs.declared.Asked.TheVariants as asked
@@ -22,14 +22,15 @@ use Rattle.mesh_base.specs.declared.ShapeFault.TheVariants as shape
 use Rattle.mesh_base.specs.declared.UseWhy.{UseWhy}
 use Rattle.mesh_base.specs.declared.UseWhy.TheVariants as using
 use Rattle.mesh_base.specs.Limits.{limits_of}
-use Rattle.log_text.specs.declared.TheConstants.{COUNT_MAX, SEEN_MAX, CORNER_MAX, PASSES_MAX, TURN_MAX, VERSION}
+use Rattle.log_text.specs.declared.TheConstants.{COUNT_MAX, SEEN_MAX, CORNER_MAX, PASSES_MAX, TURN_MAX, VERSION, IDS_VERSION}
 use Rattle.log_text.specs.declared.LogLine.{LogLine}
 use Rattle.log_text.specs.declared.LogLine.TheVariants as line
+use Rattle.log_text.specs.declared.NewIds.{NewIds}
 use Rattle.log_text.specs.declared.Refusal.{Refusal}
 use Rattle.log_text.specs.declared.Refusal.TheVariants as refusal
 use Rattle.log_text.specs.Lines.{body_of, text_of_lines}
 use Rattle.line_text.specs.Spellings.{spaced_words}
-use Rattle.log_read.specs.Values.{is_latest}
+use Rattle.log_read.specs.Values.{is_later}
 use Rattle.log_read.specs.Reading.{rounds_most, line_of, version_of, log_of}
 
 -- from low to high
@@ -94,10 +95,20 @@ IsRefusalInRange (refusal.StepUse at why) = IsFrom 1 COUNT_MAX at × IsUseInRang
 abbrev pub IsEdgeInRange : ℕ → ℕ → Type 0
 IsEdgeInRange a b = IsFrom 1 ID_MAX a × IsFrom (a + 1) ID_MAX b
 
--- ids from low up to the greatest, each above the one before
+-- ids from low up to the most, each above the one before
+abbrev pub AreRisingTo : ℕ → ℕ → List ℕ → Type 0
+AreRisingTo most low [] = Unit {0}
+AreRisingTo most low (v ∷ vs) = IsFrom low most v × AreRisingTo most (v + 1) vs
+
+-- the same up to the greatest that there is
 abbrev pub AreRising : ℕ → List ℕ → Type 0
-AreRising low [] = Unit {0}
-AreRising low (v ∷ vs) = IsFrom low ID_MAX v × AreRising (v + 1) vs
+AreRising low ids = AreRisingTo ID_MAX low ids
+
+-- one id or more, below the next one, which is at most one above the greatest
+pub record AreNewIds (new : NewIds) : Type 0 where
+  pub next : IsFrom 1 (ID_MAX + 1) new.next
+  pub some : 0 < length new.ids
+  pub ids : AreRisingTo (new.next - 1) 1 new.ids
 
 -- the length that a pass goes by
 abbrev pub IsPassInRange : PassKind → Type 0
@@ -136,6 +147,8 @@ IsInRange scale (line.First version) = Unit {0}
 IsInRange scale (line.Mesh k vertices faces) =
     (k ≤ COUNT_MAX) × (vertices ≤ (limits_of scale).vertices) × (faces ≤ (limits_of scale).faces)
 IsInRange scale (line.Step k) = IsFrom 1 COUNT_MAX k
+IsInRange scale (line.Vertices new) = AreNewIds new
+IsInRange scale (line.Faces new) = AreNewIds new
 IsInRange scale (line.Solid v) = IsFrom 1 ID_MAX v
 IsInRange scale (line.Hit pair) = IsPairInRange pair
 IsInRange scale (line.Block ids) = (2 ≤ length ids) × AreRising 1 ids
@@ -154,20 +167,20 @@ IsInRange scale line.End = Unit {0}
 
 -- no reason in the old version names a solid vertex
 abbrev pub IsReasonOfVersion : ℕ → Why → Type 0
-IsReasonOfVersion version reason.Solid = version ≡ VERSION
+IsReasonOfVersion version reason.Solid = is_later version ≡ true
 IsReasonOfVersion version _ = Unit {0}
 
 -- no refused directive in the old version names a solid vertex
 abbrev pub IsUseOfVersion : ℕ → UseWhy → Type 0
-IsUseOfVersion version (using.Solid v) = version ≡ VERSION
+IsUseOfVersion version (using.Solid v) = is_later version ≡ true
 IsUseOfVersion version _ = Unit {0}
 
 -- no file that the old version tells of is a log or a proof
 abbrev pub IsFileOfVersion : ℕ → FileWord → Type 0
 IsFileOfVersion version file.Mesh = Unit {0}
 IsFileOfVersion version file.Steps = Unit {0}
-IsFileOfVersion version file.Log = version ≡ VERSION
-IsFileOfVersion version file.Proof = version ≡ VERSION
+IsFileOfVersion version file.Log = is_later version ≡ true
+IsFileOfVersion version file.Proof = is_later version ≡ true
 
 -- no refusal in the old version tells of groups, solid vertices, logs or proofs
 abbrev pub IsRefusalOfVersion : ℕ → Refusal → Type 0
@@ -176,25 +189,34 @@ IsRefusalOfVersion version (refusal.Missing name) = IsFileOfVersion version name
 IsRefusalOfVersion version (refusal.Mesh fault) = Unit {0}
 IsRefusalOfVersion version (refusal.Shape fault) = Unit {0}
 IsRefusalOfVersion version (refusal.Meets pair) = Unit {0}
-IsRefusalOfVersion version (refusal.Steps fault) = IsWhyOf (is_latest version) fault.why
+IsRefusalOfVersion version (refusal.Steps fault) = IsWhyOf (is_later version) fault.why
 IsRefusalOfVersion version (refusal.StepUse at why) = IsUseOfVersion version why
 
--- The line is one of this version's lines: a first line names the version, and only the one that is
--- written tells of solid vertices, of passes by the sizing, of groups, and of logs and proofs.
+-- The line is one of this version's lines: a first line names the version, none but the old one tells
+-- of no solid vertices, passes by the sizing, groups, logs and proofs, and one alone of which ids
+-- vertices and faces have.
 abbrev pub IsOfVersion : ℕ → LogLine → Type 0
 IsOfVersion version (line.First v) = v ≡ version
-IsOfVersion version (line.Solid v) = version ≡ VERSION
-IsOfVersion version line.PassFit = version ≡ VERSION
-IsOfVersion version line.Group = version ≡ VERSION
-IsOfVersion version (line.Close kept) = version ≡ VERSION
+IsOfVersion version (line.Vertices new) = version ≡ IDS_VERSION
+IsOfVersion version (line.Faces new) = version ≡ IDS_VERSION
+IsOfVersion version (line.Solid v) = is_later version ≡ true
+IsOfVersion version line.PassFit = is_later version ≡ true
+IsOfVersion version line.Group = is_later version ≡ true
+IsOfVersion version (line.Close kept) = is_later version ≡ true
 IsOfVersion version (line.No what why) = IsReasonOfVersion version why
 IsOfVersion version (line.Refused why) = IsRefusalOfVersion version why
 IsOfVersion version _ = Unit {0}
 
--- the line names no other version than the one that is written
+-- the line names no other version than this one, and is none of another alone
+abbrev pub NamesOnly : ℕ → LogLine → Type 0
+NamesOnly version (line.First v) = v ≡ version
+NamesOnly version (line.Vertices new) = version ≡ IDS_VERSION
+NamesOnly version (line.Faces new) = version ≡ IDS_VERSION
+NamesOnly version _ = Unit {0}
+
+-- the same of the one that is written
 abbrev pub NamesNoOther : LogLine → Type 0
-NamesNoOther (line.First v) = v ≡ VERSION
-NamesNoOther _ = Unit {0}
+NamesNoOther l = NamesOnly VERSION l
 
 -- the line is in range, and one of this version's lines
 abbrev pub IsLineOf : Scale → ℕ → LogLine → Type 0
@@ -227,3 +249,9 @@ abbrev pub WrittenLogsAreRead : Type 0
 WrittenLogsAreRead = (scale : Scale) (ls : List LogLine) →
     All (λ l. IsInRange scale l × NamesNoOther l) ls →
     log_of scale (text_of_lines (line.First VERSION ∷ ls)) ≡ Ok (line.First VERSION ∷ ls)
+
+-- So is that of a log whose first line names the version that tells which ids there are.
+abbrev pub NumberedLogsAreRead : Type 0
+NumberedLogsAreRead = (scale : Scale) (ls : List LogLine) →
+    All (λ l. IsInRange scale l × NamesOnly IDS_VERSION l) ls →
+    log_of scale (text_of_lines (line.First IDS_VERSION ∷ ls)) ≡ Ok (line.First IDS_VERSION ∷ ls)

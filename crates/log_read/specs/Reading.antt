@@ -15,7 +15,7 @@ use Rattle.mesh_base.specs.declared.ShapeFault.TheVariants as shape
 use Rattle.mesh_base.specs.declared.UseWhy.TheVariants as using
 use Rattle.mesh_base.specs.declared.Scale.{Scale}
 use Rattle.mesh_base.specs.Limits.{limits_of}
-use Rattle.log_text.specs.declared.TheConstants.{COUNT_MAX, SEEN_MAX, CORNER_MAX, PASSES_MAX, VERSION, OLD_VERSION}
+use Rattle.log_text.specs.declared.TheConstants.{COUNT_MAX, SEEN_MAX, CORNER_MAX, PASSES_MAX, VERSION, IDS_VERSION, OLD_VERSION}
 use Rattle.log_text.specs.declared.LogLine.{LogLine}
 use Rattle.log_text.specs.declared.LogLine.TheVariants as line
 use Rattle.log_text.specs.declared.Refusal.{Refusal}
@@ -23,8 +23,8 @@ use Rattle.log_text.specs.declared.Refusal.TheVariants as refusal
 use Rattle.line_text.specs.Spellings.{spaced_words, spelled_number, spelled_from, spelled_at, count_with_end}
 use Rattle.log_read.specs.Fields.{both}
 use Rattle.log_text.specs.Lines.{body_of}
-use Rattle.log_read.specs.Values.{is_latest, pair_at, shift_of_at, fault_at, whole, without_more_words}
-use Rattle.log_read.specs.EditLines.{block_of, pinch_of, edit_of}
+use Rattle.log_read.specs.Values.{is_later, pair_at, shift_of_at, fault_at, whole, without_more_words}
+use Rattle.log_read.specs.EditLines.{block_of, new_ids_of, pinch_of, edit_of}
 
 -- the greatest number of rounds of impact zones: fewer than vertices may live
 abbrev pub rounds_most : Scale → ℕ
@@ -78,8 +78,8 @@ unfoldable pub file_of : ℕ → List ℕ → Option FileWord
 file_of version word =
     if bytes_eq word (codes "mesh") then Some file.Mesh
     else if bytes_eq word (codes "steps") then Some file.Steps
-    else if bytes_eq word (codes "log") && is_latest version then Some file.Log
-    else if bytes_eq word (codes "proof") && is_latest version then Some file.Proof
+    else if bytes_eq word (codes "log") && is_later version then Some file.Log
+    else if bytes_eq word (codes "proof") && is_later version then Some file.Proof
     else None
 
 -- a word that leads to no form
@@ -155,7 +155,7 @@ why_of_use version ended at word words =
     then (use_numbers ended at words >>= λ n. refused (refusal.StepUse n.0 (using.Box n.1)))
     else if bytes_eq word (codes "field")
     then (use_line ended at words >>= λ n. refused (refusal.StepUse n using.NoField))
-    else if bytes_eq word (codes "solid") && is_latest version
+    else if bytes_eq word (codes "solid") && is_later version
     then (use_numbers ended at words >>= λ n. refused (refusal.StepUse n.0 (using.Solid n.1)))
     else if ended then Err why.Number
     else Err why.Short
@@ -178,7 +178,7 @@ refused_of version ended (word ∷ words) =
     else if bytes_eq word (codes "meets")
     then (whole ended 3 pair_at words >>= λ pair. refused (refusal.Meets pair))
     else if bytes_eq word (codes "steps")
-    then (whole ended 2 (fault_at (is_latest version)) words
+    then (whole ended 2 (fault_at (is_later version)) words
     >>= λ fault. refused (refusal.Steps fault))
     else if bytes_eq word (codes "use") then use_of version ended words
     else Err why.Unknown
@@ -206,9 +206,9 @@ plain_of scale version ended first words =
     else if bytes_eq first (codes "moved") then moved_of scale ended words
     else if bytes_eq first (codes "refused") then refused_of version ended words
     else if bytes_eq first (codes "end") then without_more_words ended line.End words
-    else if bytes_eq first (codes "solid") && is_latest version then solid_of ended words
-    else if bytes_eq first (codes "group") && is_latest version then without_more_words ended line.Group words
-    else if bytes_eq first (codes "close") && is_latest version then close_of ended words
+    else if bytes_eq first (codes "solid") && is_later version then solid_of ended words
+    else if bytes_eq first (codes "group") && is_later version then without_more_words ended line.Group words
+    else if bytes_eq first (codes "close") && is_later version then close_of ended words
     else edit_of version ended first words
 
 -- the line that the words spell by a scale and a version, where ended says that LF stands after them
@@ -217,6 +217,10 @@ line_of scale version ended [] = Err why.Unknown
 line_of scale version ended (first ∷ words) =
     if bytes_eq first (codes "block") then block_of ended words
     else if bytes_eq first (codes "pinch") then pinch_of ended words
+    else if bytes_eq first (codes "vertices") && version == IDS_VERSION
+    then (new_ids_of ended words >>= λ new. Ok (line.Vertices new))
+    else if bytes_eq first (codes "faces") && version == IDS_VERSION
+    then (new_ids_of ended words >>= λ new. Ok (line.Faces new))
     else plain_of scale version ended first words
 
 -- ---- texts
@@ -240,12 +244,14 @@ parts_add scale version lines number (part ∷ next ∷ parts) =
 abbrev pub parts_of_text : List ℕ → List (List ℕ)
 parts_of_text bytes = slice_split (λ b. b == 10) bytes
 
--- the version by which parts are read: the one that is written where the first of them
--- names it, and otherwise the old one
+-- the version by which parts are read: the one that the first of them names where it is the one
+-- that is written or that of ids, and otherwise the old one
 abbrev pub version_in : List (List ℕ) → ℕ
 version_in [] = OLD_VERSION
 version_in (first ∷ parts) =
-    if bytes_eq first (body_of (line.First VERSION)) then VERSION else OLD_VERSION
+    if bytes_eq first (body_of (line.First VERSION)) then VERSION
+    else if bytes_eq first (body_of (line.First IDS_VERSION)) then IDS_VERSION
+    else OLD_VERSION
 
 -- the version by which a text is read
 abbrev pub version_of : List ℕ → ℕ

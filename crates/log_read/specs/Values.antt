@@ -1,5 +1,5 @@
 -- Values of a log's lines, as words spell them.
-use Rattle.std.specs.Prelude.{ℕ, ◌+◌, ◌==◌, ◌&&◌, Bool, if◌then◌else◌, List, [], ◌∷◌, Option, Some, None, Result, Ok, Err, codes}
+use Rattle.std.specs.Prelude.{ℕ, ◌+◌, ◌&&◌, nat_lt, Bool, if◌then◌else◌, List, [], ◌∷◌, Option, Some, None, Result, Ok, Err, codes}
 use Rattle.std.specs.Str.{bytes_eq}
 use Rattle.edit_base.specs.declared.CopyAt.{CopyAt}
 use Rattle.edit_base.specs.declared.Why.{Why}
@@ -14,12 +14,12 @@ use Rattle.line_text.specs.Faults.{◌>>=◌}
 use Rattle.line_text.specs.Spellings.{spelled_at, spelled_signed_at, count_with_end}
 use Rattle.mesh_base.specs.declared.PairName.{PairName}
 use Rattle.mesh_base.specs.declared.ShiftOf.{ShiftOf}
-use Rattle.log_text.specs.declared.TheConstants.{COUNT_MAX, VERSION}
+use Rattle.log_text.specs.declared.TheConstants.{COUNT_MAX, OLD_VERSION}
 use Rattle.log_read.specs.Fields.{Reader, or_number, in_turn, both}
 
--- whether it is the version that is written, which alone tells of solid vertices and groups
-abbrev pub is_latest : ℕ → Bool
-is_latest version = version == VERSION
+-- whether it is a version after the old one, which tells of no solid vertices and groups
+abbrev pub is_later : ℕ → Bool
+is_later version = nat_lt OLD_VERSION version
 
 -- the smaller end of an edge, its larger end, and a face
 unfoldable pub pair_at : Reader PairName
@@ -85,7 +85,7 @@ reason_of version word =
     else if bytes_eq word (codes "full") then Some reason.Full
     else if bytes_eq word (codes "doubled") then Some reason.Doubled
     else if bytes_eq word (codes "onefan") then Some reason.OneFan
-    else if bytes_eq word (codes "solid") && is_latest version then Some reason.Solid
+    else if bytes_eq word (codes "solid") && is_later version then Some reason.Solid
     else None
 
 -- the reason, which has a pair after it where it is `hit`

@@ -11,7 +11,7 @@ use crate::values::{count_at, only_count, without_more_words};
 use edit_base::{Asked, Change, PassKind, Why};
 use grid_base::{ID_MAX, LENGTH_MAX};
 use line_text::{Parts, TextWhy, count_with_end, is_word};
-use log_text::{LogLine, TURN_MAX, VERSION};
+use log_text::{LogLine, OLD_VERSION, TURN_MAX};
 use mesh_base::VertexId;
 
 // The length that a pass goes by.
@@ -47,7 +47,7 @@ fn pass(version: u8, ended: bool, words: Parts<'_>) -> Result<LogLine, TextWhy>
     if is_word(kind, b"pinch") {
         return without_more_words(ended, LogLine::Pass(PassKind::Pinch), words);
     }
-    if is_word(kind, b"fit") && version == VERSION {
+    if is_word(kind, b"fit") && version > OLD_VERSION {
         return without_more_words(ended, LogLine::PassFit, words);
     }
     Err(TextWhy::Unknown)

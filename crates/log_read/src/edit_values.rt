@@ -8,7 +8,7 @@ use crate::values::{count_at, pair_at};
 use edit_base::{CopyAt, Why};
 use grid_base::{BOX, ID_MAX, Point};
 use line_text::{Parts, TextWhy, count_with_end, is_word, point_with, spelled_signed_at};
-use log_text::VERSION;
+use log_text::OLD_VERSION;
 use mesh_base::VertexId;
 
 #[tactic(auto, unfolding(crate::specs::Values::edge_at))]
@@ -64,7 +64,7 @@ fn reason_of(version: u8, word: &[u8]) -> Option<Why>
     if is_word(word, b"onefan") {
         return Some(Why::OneFan);
     }
-    if is_word(word, b"solid") && version == VERSION {
+    if is_word(word, b"solid") && version > OLD_VERSION {
         return Some(Why::Solid);
     }
     None

@@ -1,6 +1,6 @@
 //! What holds of the texts of lines and of their reading.
 
-ghost use Rattle.log_read.specs.Laws.{LinesAreTheirSpellings, BodiesHaveNoEnd, LogsAreTheirLines, WrittenLogsAreRead};
+ghost use Rattle.log_read.specs.Laws.{LinesAreTheirSpellings, BodiesHaveNoEnd, LogsAreTheirLines, WrittenLogsAreRead, NumberedLogsAreRead};
 
 /// Bytes are read as a line, by any scale, exactly where they are its one spelling, its values are in the scale's ranges, and the
 /// line is one of the version's.
@@ -20,7 +20,8 @@ pub fn logs_are_their_lines()
 {}
 
 /// What is printed is read again: the text of a first line that names `VERSION`, and of further lines that are in range and
-/// name no other version, is read as these lines.
+/// name no other version, is read as these lines; and so it is with `IDS_VERSION`.
 pub fn written_logs_are_read()
-    ensures { WrittenLogsAreRead }
+    ensures latest { WrittenLogsAreRead }
+    ensures numbered { NumberedLogsAreRead }
 {}

@@ -5,12 +5,12 @@ ghost use Rattle.line_text.specs.Spellings.{spaced_words};
 ghost use Rattle.log_read.specs.Reading as spec;
 
 use crate::edit_lines::edit;
-use crate::listed::{block, pinch};
+use crate::listed::{block, new_ids, pinch};
 use crate::refusals::refused;
 use crate::values::{count_at, only_count, only_pair, shift_of_at, without_more_words};
 use grid_base::{HALVINGS_MAX, ID_MAX};
 use line_text::{Parts, ReadFault, TextFault, TextWhy, count_with_end, is_word};
-use log_text::{COUNT_MAX, LogLine, PASSES_MAX, VERSION};
+use log_text::{COUNT_MAX, IDS_VERSION, LogLine, OLD_VERSION, PASSES_MAX};
 use mesh_base::{How, Scale, VertexId};
 use std::alloc::Global;
 
@@ -165,13 +165,13 @@ fn plain(
     if is_word(form, b"end") {
         return without_more_words(ended, LogLine::End, words);
     }
-    if is_word(form, b"solid") && version == VERSION {
+    if is_word(form, b"solid") && version > OLD_VERSION {
         return solid(ended, words);
     }
-    if is_word(form, b"group") && version == VERSION {
+    if is_word(form, b"group") && version > OLD_VERSION {
         return without_more_words(ended, LogLine::Group, words);
     }
-    if is_word(form, b"close") && version == VERSION {
+    if is_word(form, b"close") && version > OLD_VERSION {
         return close(ended, words);
     }
     edit(version, ended, form, words)
@@ -207,6 +207,14 @@ pub(crate) fn read_line(
     }
     if is_word(form, b"pinch") {
         return pinch(alloc, ended, words, number);
+    }
+    if is_word(form, b"vertices") && version == IDS_VERSION {
+        let new = new_ids(alloc, ended, words, number)?;
+        return Ok(LogLine::Vertices(new));
+    }
+    if is_word(form, b"faces") && version == IDS_VERSION {
+        let new = new_ids(alloc, ended, words, number)?;
+        return Ok(LogLine::Faces(new));
     }
     placed(plain(scale, version, ended, form, words), number)
 }

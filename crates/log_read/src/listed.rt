@@ -1,15 +1,16 @@
-ghost use Rattle.std.specs.Prelude.{◌≡◌, [], Ok};
+ghost use Rattle.std.specs.Prelude.{◌≡◌, ◌≤◌, ◌+◌, [], Ok, IfOk};
+ghost use Rattle.grid_base.specs.declared.TheConstants.{ID_MAX};
 ghost use Rattle.line_text.specs.Faults.{GivesAt};
 ghost use Rattle.line_text.specs.Fields.{TakesParts};
 ghost use Rattle.line_text.specs.Remaining.{parts_left};
 ghost use Rattle.log_read.specs.EditLines as spec;
 
 use crate::edit_values::place_at;
-use crate::values::number_of;
+use crate::values::{count_at, number_of};
 use edit_base::{Change, Copies, CopyAt};
-use grid_base::ID_MAX;
+use grid_base::{ID_MAX, Items};
 use line_text::{Parts, ReadFault, TextFault, TextWhy, count_parts_up_to};
-use log_text::LogLine;
+use log_text::{LogLine, NewIds};
 use mesh_base::{Ids, VertexId};
 use std::alloc::Global;
 
@@ -23,9 +24,9 @@ fn at_least(ended: bool, count: usize, words: Parts<'_>) -> Result<(), TextWhy>
     if ended { Ok(()) } else { Err(TextWhy::Short) }
 }
 
-// The ids that the words spell, each above the one before.
+// The ids of vertices that the words spell, each above the one before.
 fn ids(alloc: Global, words: Parts<'_>, number: u32) -> Result<Ids, ReadFault>
-    ensures { GivesAt number result (spec.ids_add [] 1 (parts_left words.entry)) }
+    ensures { GivesAt number result (spec.ids_add ID_MAX [] 1 (parts_left words.entry)) }
 {
     let mut ids = Ids::new(alloc);
     let mut low = 1;
@@ -39,6 +40,61 @@ fn ids(alloc: Global, words: Parts<'_>, number: u32) -> Result<Ids, ReadFault>
         }
     }
     Ok(ids)
+}
+
+// The ids, of whatever kind, that the words spell, each above the one before and none above the most.
+fn ids_up_to(
+    alloc: Global,
+    most: u32,
+    words: Parts<'_>,
+    number: u32,
+) -> Result<Items<u32>, ReadFault>
+    requires { most ≤ ID_MAX }
+    ensures { GivesAt number result (spec.ids_add most [] 1 (parts_left words.entry)) }
+{
+    let mut ids = Items::new(alloc);
+    let mut low = 1;
+    for word in words {
+        match number_of(word, low, most) {
+            Ok(id) => {
+                ids.push(id)?;
+                low = id + 1;
+            }
+            Err(why) => return Err(ReadFault::Text(TextFault { line: number, why })),
+        }
+    }
+    Ok(ids)
+}
+
+// The next id, where an id or more stands after it.
+#[tactic(auto, unfolding(crate::specs::EditLines::next_of))]
+fn next_id(ended: bool, words: &mut Parts<'_>) -> Result<u32, TextWhy>
+    ensures value { TakesParts words.old words.new result (spec.next_of ended) }
+    ensures above { IfOk result (λ next. 1 ≤ next) }
+    ensures below { IfOk result (λ next. next ≤ (ID_MAX + 1)) }
+{
+    at_least(ended, 2, *words)?;
+    count_at(words, 1, ID_MAX + 1)
+}
+
+// The next id, and the ids that are taken.
+#[tactic(auto, unfolding(crate::specs::EditLines::new_ids_of))]
+pub(crate) fn new_ids(
+    alloc: Global,
+    ended: bool,
+    words: Parts<'_>,
+    number: u32,
+) -> Result<NewIds, ReadFault>
+    ensures { GivesAt number result (spec.new_ids_of ended (parts_left words.entry)) }
+{
+    let mut words = words;
+    match next_id(ended, &mut words) {
+        Ok(next) => {
+            let ids = ids_up_to(alloc, next - 1, words, number)?;
+            Ok(NewIds { next, ids })
+        }
+        Err(why) => Err(ReadFault::Text(TextFault { line: number, why })),
+    }
 }
 
 #[tactic(auto, unfolding(crate::specs::EditLines::block_of))]

@@ -6,7 +6,7 @@ ghost use Rattle.log_read.specs.Reading as spec;
 use crate::lines::read_line;
 use grid_base::NoMemory;
 use line_text::{ReadFault, cut_at, is_word};
-use log_text::{Log, LogLine, OLD_VERSION, VERSION};
+use log_text::{IDS_VERSION, Log, LogLine, OLD_VERSION, VERSION};
 use mesh_base::Scale;
 use std::alloc::Global;
 
@@ -67,11 +67,14 @@ pub(crate) fn version_of(bytes: &[u8]) -> u8
     if is_word(first, b"topo log 2") {
         return VERSION;
     }
+    if is_word(first, b"topo log 3") {
+        return IDS_VERSION;
+    }
     OLD_VERSION
 }
 
 /// The lines of a log, or the first of its lines that is no spelling, with the reason. Each line ends with LF. A log whose
-/// first line names `VERSION` is read by this version, and any other by `OLD_VERSION`. A `mesh` line tells of no more vertices
+/// first line names `VERSION` or `IDS_VERSION` is read by this version, and any other by `OLD_VERSION`. A `mesh` line tells of no more vertices
 /// and faces than the limits of the scale, and a `moved` line of fewer rounds than vertices.
 pub fn read_log(alloc: Global, scale: Scale, bytes: &[u8]) -> Result<Log, ReadFault>
     requires { length bytes.now ≤ TEXT_MAX }

@@ -9,7 +9,7 @@ use crate::values::{
 };
 use grid_base::ID_MAX;
 use line_text::{Parts, TextWhy, count_with_end, is_word, spelled_at};
-use log_text::{CORNER_MAX, COUNT_MAX, LogLine, Refusal, SEEN_MAX, VERSION};
+use log_text::{CORNER_MAX, COUNT_MAX, LogLine, OLD_VERSION, Refusal, SEEN_MAX};
 use mesh_base::{ShapeFault, UseWhy};
 
 // The one further word, how much was seen.
@@ -141,7 +141,7 @@ fn why_of_use(
         let why = UseWhy::NoField;
         return Ok(LogLine::Refused(Refusal::StepUse { line, why }));
     }
-    if is_word(word, b"solid") && version == VERSION {
+    if is_word(word, b"solid") && version > OLD_VERSION {
         let (line, v) = use_numbers(ended, at, words)?;
         let why = UseWhy::Solid { v };
         return Ok(LogLine::Refused(Refusal::StepUse { line, why }));
@@ -192,7 +192,7 @@ pub(crate) fn refused(version: u8, ended: bool, words: Parts<'_>) -> Result<LogL
         return Ok(LogLine::Refused(Refusal::Meets(pair)));
     }
     if is_word(word, b"steps") {
-        let fault = only_fault(version == VERSION, ended, words)?;
+        let fault = only_fault(version > OLD_VERSION, ended, words)?;
         return Ok(LogLine::Refused(Refusal::Steps(fault)));
     }
     if is_word(word, b"use") {

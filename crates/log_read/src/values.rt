@@ -11,7 +11,7 @@ use line_text::{
     Parts, TextFault, TextWhy, count_with_end, is_word, shift_with, spelled_at, spelled_from,
     spelled_signed_at,
 };
-use log_text::{COUNT_MAX, LogLine, VERSION};
+use log_text::{COUNT_MAX, LogLine, OLD_VERSION};
 use mesh_base::{FaceId, FileWord, PairName, ShiftOf, VertexId};
 
 // The number that a word spells, from low to high.
@@ -181,10 +181,10 @@ pub(crate) fn file_of(version: u8, word: &[u8]) -> Option<FileWord>
     if is_word(word, b"steps") {
         return Some(FileWord::Steps);
     }
-    if is_word(word, b"log") && version == VERSION {
+    if is_word(word, b"log") && version > OLD_VERSION {
         return Some(FileWord::Log);
     }
-    if is_word(word, b"proof") && version == VERSION {
+    if is_word(word, b"proof") && version > OLD_VERSION {
         return Some(FileWord::Proof);
     }
     None

@@ -66,6 +66,8 @@ module _ (Are : Limits → Type 0) where
   -- one line
   pub limits-replayed : (r : Replay) (l : LogLine) → HaveLimits Are r → HaveLimits Are (replayed r l)
   limits-replayed r (line.Step k) h = record { mesh = h.mesh; groups = h.groups }
+  limits-replayed r (line.Vertices new) h = record { mesh = h.mesh; groups = h.groups }
+  limits-replayed r (line.Faces new) h = record { mesh = h.mesh; groups = h.groups }
   limits-replayed r (line.Solid v) h = record { mesh = h.mesh; groups = h.groups }
   limits-replayed r (line.Move s) h = record { mesh = h.mesh; groups = h.groups }
   limits-replayed r (line.Moved how) h = record { mesh = subst Are (sym (limits-with_moves r.mesh r.moves)) h.mesh; groups = h.groups }

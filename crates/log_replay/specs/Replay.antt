@@ -4,9 +4,10 @@ use Rattle.mesh_base.specs.declared.ShiftOf.{ShiftOf}
 use Rattle.mesh_base.specs.Mesh.{Mesh}
 use Rattle.mesh_base.specs.Changes.{with_solid}
 use Rattle.mesh_base.specs.Shifts.{with_moves}
+use Rattle.mesh_ids.specs.NewIds.{with_vertex_ids, with_face_ids}
 use Rattle.edit_any.specs.Dispatch.{edited}
 use Rattle.log_text.specs.declared.LogLine.{LogLine}
-use Rattle.log_text.specs.declared.LogLine.TheVariants.{Step, Solid, Move, Moved, Did, Group, Close}
+use Rattle.log_text.specs.declared.LogLine.TheVariants.{Step, Vertices, Faces, Solid, Move, Moved, Did, Group, Close}
 
 -- the mesh, the shifts of the `move` lines since the last `step` line that no `moved` line has used
 -- up, and the meshes at which the open groups were opened, the innermost first
@@ -25,6 +26,8 @@ closed false (m ∷ outer) r = record r { mesh = m; stack = outer }
 -- what one line makes
 abbrev pub replayed : Replay → LogLine → Replay
 replayed r (Step k) = record r { moves = [] }
+replayed r (Vertices new) = record r { mesh = with_vertex_ids r.mesh new.ids new.next }
+replayed r (Faces new) = record r { mesh = with_face_ids r.mesh new.ids new.next }
 replayed r (Solid v) = record r { mesh = with_solid r.mesh v }
 replayed r (Move s) = record r { moves = r.moves ++ s ∷ [] }
 replayed r (Moved how) = record r { mesh = with_moves r.mesh r.moves; moves = [] }

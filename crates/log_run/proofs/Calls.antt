@@ -15,7 +15,9 @@ use Rattle.mesh_base.specs.Kept.{BeginsWith, MarkHolds, StandsFor}
 use Rattle.edit_base.specs.declared.Change.{Change}
 use Rattle.edit_any.specs.Dispatch.{edited}
 use Rattle.step_text.specs.declared.TheConstants.{GROUPS_MAX}
+use Rattle.mesh_ids.specs.NewIds.{MayTake, with_vertex_ids, with_face_ids}
 use Rattle.log_text.specs.declared.LogLine.{LogLine}
+use Rattle.log_text.specs.declared.NewIds.{NewIds}
 use Rattle.log_text.specs.declared.LogLine.TheVariants as line
 use Rattle.log_replay.specs.Replay.{Replay, closed}
 use Rattle.log_run.specs.declared.replay_state.StepSoFar.{StepSoFar}
@@ -83,6 +85,34 @@ module _ (beyond : ℕ) (m : Mesh) (kept : List Mesh) (at : ReplayState) (holds 
       accepted beyond (line.Solid v) m kept at n left at (e, live)
       (state_is (with_solid m v) n at.step.moves at.step.moves (stack_of kept at.marks) (stack_of left at.marks) at.begun made refl stack)
       (record { marks = marks; step = λ h. no_step at.begun e h })
+
+  -- ---- vertices, or faces, that take new ids
+  pub none_open : length at.marks ≡ 0 → at.marks ≡ []
+  none_open = none at.marks
+    where
+      none : (marks : List Mark) → length marks ≡ 0 → marks ≡ []
+      none [] e = refl
+      none (mark ∷ marks) e = absurd (omega (arith, e))
+
+  no_stack : at.marks ≡ [] → (left : List Mesh) → stack_of left at.marks ≡ stack_of kept at.marks
+  no_stack none left = ap (stack_of left) none ∙ sym (ap (stack_of kept) none)
+
+  no_marks : at.marks ≡ [] → (left : List Mesh) → MarksHold beyond left at.marks
+  no_marks none left = let P : List Mark → Type 0 = λ l. MarksHold beyond left l in subst P (sym none) tt
+
+  pub vertices_taken : at.begun ≡ false → at.marks ≡ [] → (new : NewIds) (n : Mesh) (left : List Mesh) → MayTake (finite.len m.points) new.ids new.next → n ≡ with_vertex_ids m new.ids new.next
+      → Takes beyond (line.Vertices new) m kept at n left at (Ok true)
+  vertices_taken e none new n left may made =
+      accepted beyond (line.Vertices new) m kept at n left at (e, ap (stack_of kept) none, may)
+      (state_is (with_vertex_ids m new.ids new.next) n at.step.moves at.step.moves (stack_of kept at.marks) (stack_of left at.marks) at.begun made refl (no_stack none left))
+      (record { marks = no_marks none left; step = λ h. no_step at.begun e h })
+
+  pub faces_taken : at.begun ≡ false → at.marks ≡ [] → (new : NewIds) (n : Mesh) (left : List Mesh) → MayTake (finite.len m.faces) new.ids new.next → n ≡ with_face_ids m new.ids new.next
+      → Takes beyond (line.Faces new) m kept at n left at (Ok true)
+  faces_taken e none new n left may made =
+      accepted beyond (line.Faces new) m kept at n left at (e, ap (stack_of kept) none, may)
+      (state_is (with_face_ids m new.ids new.next) n at.step.moves at.step.moves (stack_of kept at.marks) (stack_of left at.marks) at.begun made refl (no_stack none left))
+      (record { marks = no_marks none left; step = λ h. no_step at.begun e h })
 
   -- ---- an edit
   pub edit_taken : at.begun ≡ false → (change : Change) (n : Mesh) (left : List Mesh) (result : Result Bool NoMemory) → IfOk result (λ told. IsTrue told ↔ IsAnswered m change) → (result ≡ Ok true → n ≡ edited m change)

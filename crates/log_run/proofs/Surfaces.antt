@@ -15,6 +15,8 @@ use Rattle.mesh_base.proofs.Moves.{sound-with_moves, closed-with_moves, clear_af
 use Rattle.edit_base.specs.declared.Change.{Change}
 use Rattle.edit_any.specs.Dispatch.{edited}
 use Rattle.edit_any.proofs.Asked.{asked_stays_sound, asked_stays_closed, asked_stays_clear, asked_moves_clear}
+use Rattle.mesh_ids.specs.NewIds.{with_vertex_ids, with_face_ids}
+use Rattle.mesh_ids.proofs.Taken.{vertices_stay_valid, faces_stay_valid}
 use Rattle.log_text.specs.declared.LogLine.{LogLine}
 use Rattle.log_text.specs.declared.LogLine.TheVariants as line
 use Rattle.log_replay.specs.Replay.{Replay, closed}
@@ -74,6 +76,14 @@ later_is_safe : (s : LogState) (l : LogLine) → IsValidState s → FitsLater s 
 later_is_safe s (line.First version) good fits clear = absurd fits
 later_is_safe s (line.Mesh k vertices faces) good fits clear = (tt, stays s (with_line s (line.Mesh k vertices faces)) refl refl good)
 later_is_safe s (line.Step k) good fits clear = (tt, record { now = good.now; groups = good.groups; moves = none_moves s.replay.mesh; between = λ e. refl })
+later_is_safe s (line.Vertices new) good fits clear =
+    let m : Mesh = with_vertex_ids s.replay.mesh new.ids new.next in
+    let next : IsValidSurface m = vertices_stay_valid s.replay.mesh new.ids new.next fits.2 good.now in
+    (tt, record { now = next; groups = good.groups; moves = changed s m fits.0 good next; between = good.between })
+later_is_safe s (line.Faces new) good fits clear =
+    let m : Mesh = with_face_ids s.replay.mesh new.ids new.next in
+    let next : IsValidSurface m = faces_stay_valid s.replay.mesh new.ids new.next fits.2 good.now in
+    (tt, record { now = next; groups = good.groups; moves = changed s m fits.0 good next; between = good.between })
 later_is_safe s (line.Solid v) good fits clear =
     let m : Mesh = with_solid s.replay.mesh v in
     let next : IsValidSurface m = record { sound = sound-with_solid s.replay.mesh v good.now.sound fits.1; closed = good.now.closed; clear = clear-with_solid s.replay.mesh v good.now.clear } in

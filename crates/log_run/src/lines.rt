@@ -1,6 +1,7 @@
 //! One line that is taken.
 ghost use Rattle.std.specs.Prelude.{◌≡◌, ◌↔◌, ℕ, true, false, Ok, IfOk, IsTrue};
 ghost use Rattle.std.specs.FinMap as map;
+ghost use Rattle.mesh_journal.specs.Journal.{mesh_in, kept_in};
 ghost use Rattle.log_text.specs.declared.LogLine.TheVariants.{Solid};
 ghost use Rattle.log_run.specs.States.{with_line};
 ghost use Rattle.log_run.specs.Fits.{FitsFirst, LineFits, MayBeTried};
@@ -8,12 +9,14 @@ ghost use Rattle.log_run.specs.Parts.{state_now, state_of, Holds, Takes};
 
 use crate::edits::take_edit;
 use crate::groups::{close_group, open_group};
+use crate::new_ids::{take_faces, take_vertices};
 use crate::replay_state::ReplayState;
 use crate::settlement::settle_if_none;
 use crate::step_lines::{begin_step, end_step, take_move};
 use grid_base::NoMemory;
 use log_text::LogLine;
 use mesh_base::{Surface, VertexId};
+use mesh_journal::JournalMesh;
 use std::alloc::Global;
 
 // Whether the mesh has so many vertices and faces, and no step is begun.
@@ -46,18 +49,18 @@ fn take_solid<S: Surface>(mesh: &mut S, at: &ReplayState, v: VertexId) -> Result
 }
 
 // Takes a line after others, where it fits.
-fn take_later<S: Surface>(
+fn take_later(
     alloc: Global,
-    mesh: &mut S,
+    mesh: &mut JournalMesh,
     at: &mut ReplayState,
     line: &LogLine,
 ) -> Result<bool, NoMemory>
-    requires holds { Holds S.beyond (S.mesh mesh.old) (S.kept mesh.old) at.old }
-    requires tried { MayBeTried (S.mesh mesh.old) line.now }
-    ensures takes { Takes S.beyond line.now
-        (S.mesh mesh.old) (S.kept mesh.old) at.old
-        (S.mesh mesh.new) (S.kept mesh.new) at.new result }
-    ensures left { MayBeTried (S.mesh mesh.new) line.now }
+    requires holds { Holds 1 (mesh_in mesh.old) (kept_in mesh.old) at.old }
+    requires tried { MayBeTried (mesh_in mesh.old) line.now }
+    ensures takes { Takes 1 line.now
+        (mesh_in mesh.old) (kept_in mesh.old) at.old
+        (mesh_in mesh.new) (kept_in mesh.new) at.new result }
+    ensures left { MayBeTried (mesh_in mesh.new) line.now }
 {
     match line {
         LogLine::First { .. } => Ok(false),
@@ -67,6 +70,8 @@ fn take_later<S: Surface>(
             ..
         } => Ok(has_counts(mesh, at, *vertices, *faces)),
         LogLine::Step { .. } => begin_step(alloc, mesh, at),
+        LogLine::Vertices(new) => take_vertices(alloc, mesh, at, new),
+        LogLine::Faces(new) => take_faces(alloc, mesh, at, new),
         LogLine::Solid { v } => take_solid(mesh, at, *v),
         LogLine::Move(s) => take_move(mesh, at, s),
         LogLine::Moved(_) => end_step(alloc, mesh, at),
@@ -94,21 +99,21 @@ fn is_first(line: &LogLine) -> bool
 }
 
 /// Takes a line, where it fits the lines before it; `taken` says whether there are any.
-pub(crate) fn take_line<S: Surface>(
+pub(crate) fn take_line(
     alloc: Global,
-    mesh: &mut S,
+    mesh: &mut JournalMesh,
     at: &mut ReplayState,
     taken: bool,
     line: &LogLine,
 ) -> Result<bool, NoMemory>
-    requires holds { Holds S.beyond (S.mesh mesh.old) (S.kept mesh.old) at.old }
-    requires tried { MayBeTried (S.mesh mesh.old) line.now }
-    ensures fits { let from = state_of (S.mesh mesh.old) (S.kept mesh.old) at.old taken false in
+    requires holds { Holds 1 (mesh_in mesh.old) (kept_in mesh.old) at.old }
+    requires tried { MayBeTried (mesh_in mesh.old) line.now }
+    ensures fits { let from = state_of (mesh_in mesh.old) (kept_in mesh.old) at.old taken false in
         IfOk result (λ fits. IsTrue fits ↔ LineFits from line.now) }
-    ensures made { result ≡ Ok true → state_now (S.mesh mesh.new) (S.kept mesh.new) at.new
-        ≡ with_line (state_now (S.mesh mesh.old) (S.kept mesh.old) at.old) line.now }
-    ensures holds { result ≡ Ok true → Holds S.beyond (S.mesh mesh.new) (S.kept mesh.new) at.new }
-    ensures left { MayBeTried (S.mesh mesh.new) line.now }
+    ensures made { result ≡ Ok true → state_now (mesh_in mesh.new) (kept_in mesh.new) at.new
+        ≡ with_line (state_now (mesh_in mesh.old) (kept_in mesh.old) at.old) line.now }
+    ensures holds { result ≡ Ok true → Holds 1 (mesh_in mesh.new) (kept_in mesh.new) at.new }
+    ensures left { MayBeTried (mesh_in mesh.new) line.now }
 {
     if taken {
         take_later(alloc, mesh, at, line)

@@ -60,6 +60,10 @@ line_closed start word words =
     ∙ ap (λ (t : List ℕ). start ++ t) (sym (append_assoc word (spaced words) (10 ∷ [])))
     ∙ ap (λ (t : List ℕ). start ++ (t ++ 10 ∷ [])) (sym (join-spaced word words))
 
+-- the same, where the first of the others is written apart
+pub line_closed_after : (start word first : List ℕ) (words : List (List ℕ)) → (((start ++ word) ++ 32 ∷ first) ++ spaced words) ++ 10 ∷ [] ≡ start ++ (join_with_byte 32 (word ∷ first ∷ words) ++ 10 ∷ [])
+line_closed_after start word first words = ap (λ (t : List ℕ). t ++ 10 ∷ []) (append_assoc (start ++ word) (32 ∷ first) (spaced words)) ∙ line_closed start word (first ∷ words)
+
 -- two runs of words, one after the other
 pub spaced_twice : (start : List ℕ) (xs ys : List (List ℕ)) → (start ++ spaced xs) ++ spaced ys ≡ start ++ spaced (xs ++ ys)
 spaced_twice start xs ys = append_assoc start (spaced xs) (spaced ys) ∙ ap (λ (t : List ℕ). start ++ t) (sym (spaced-append xs ys))

@@ -27,6 +27,7 @@ use Rattle.mesh_base.specs.declared.UseWhy.{UseWhy}
 use Rattle.mesh_base.specs.declared.UseWhy.TheVariants as using
 use Rattle.log_text.specs.declared.log_line.LogLine.{LogLine}
 use Rattle.log_text.specs.declared.log_line.LogLine.TheVariants as line
+use Rattle.log_text.specs.declared.log_line.NewIds.{NewIds}
 use Rattle.log_text.specs.declared.log_line.Refusal.{Refusal}
 use Rattle.log_text.specs.declared.log_line.Refusal.TheVariants as refusal
 
@@ -149,12 +150,18 @@ kept_word false = codes "undone"
 
 -- ---- lines
 
+-- the next id, and the ids that are taken
+abbrev pub new_ids_words : NewIds → List (List ℕ)
+new_ids_words new = decimal new.next ∷ map decimal new.ids
+
 -- the words of a line
 abbrev pub line_words : LogLine → List (List ℕ)
 line_words (line.First version) = codes "topo" ∷ codes "log" ∷ decimal version ∷ []
 line_words (line.Mesh k vertices faces) =
     codes "mesh" ∷ decimal k ∷ decimal vertices ∷ decimal faces ∷ []
 line_words (line.Step k) = codes "step" ∷ decimal k ∷ []
+line_words (line.Vertices new) = codes "vertices" ∷ new_ids_words new
+line_words (line.Faces new) = codes "faces" ∷ new_ids_words new
 line_words (line.Solid v) = codes "solid" ∷ decimal v ∷ []
 line_words (line.Hit pair) = codes "hit" ∷ pair_words pair
 line_words (line.Block ids) = codes "block" ∷ map decimal ids

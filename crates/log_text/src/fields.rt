@@ -1,8 +1,9 @@
-ghost use Rattle.std.specs.Prelude.{◌∷◌, ◌<◌, length, map, decimal, OnErr};
+ghost use Rattle.std.specs.Prelude.{◌∷◌, ◌++◌, [], ◌<◌, length, map, decimal, OnErr};
+ghost use Rattle.std.specs.List.{join_with_byte};
 ghost use Rattle.line_text.specs.WrittenLines.{word_of, Keeps, Appends};
-ghost use Rattle.log_text.specs.Lines.{spaced, place_words, places_words, line_of_fields, text_of_line};
+ghost use Rattle.log_text.specs.Lines.{spaced, place_words, places_words, new_ids_words, line_of_fields, text_of_line};
 
-use crate::log_line::LogLine;
+use crate::log_line::{LogLine, NewIds};
 use edit_base::CopyAt;
 use grid_base::NoMemory;
 use line_text::{Field, put_line, put_word};
@@ -81,6 +82,30 @@ pub(crate) fn print_block(ids: &Ids, into: &mut Vec<u8>) -> Result<(), NoMemory>
 {
     into.extend_from_slice(b"block")?;
     put_ids(ids.as_slice(), into)?;
+    into.push(b'\n')?;
+    Ok(())
+}
+
+// Appends each number with a space in front.
+fn put_numbers(numbers: &[u32], into: &mut Vec<u8>) -> Result<(), NoMemory>
+    ensures ok { Appends result into.old into.new (spaced (map decimal numbers.now)) }
+    ensures err { OnErr result (Keeps into.old.items into.new.items) }
+{
+    for n in numbers {
+        put_next(&Field::Number(u64::from(*n)), into)?;
+    }
+    Ok(())
+}
+
+// Appends a word, the next id, and the ids that are taken.
+pub(crate) fn print_new_ids(word: &[u8], new: &NewIds, into: &mut Vec<u8>) -> Result<(), NoMemory>
+    ensures ok { let words = word.now ∷ new_ids_words new.now in
+        Appends result into.old into.new (join_with_byte 32 words ++ 10 ∷ []) }
+    ensures err { OnErr result (Keeps into.old.items into.new.items) }
+{
+    into.extend_from_slice(word)?;
+    put_next(&Field::Number(u64::from(new.next)), into)?;
+    put_numbers(new.ids.as_slice(), into)?;
     into.push(b'\n')?;
     Ok(())
 }

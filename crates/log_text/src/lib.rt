@@ -6,11 +6,13 @@ mod fields;
 mod log_line;
 mod printer;
 
-pub use log_line::{Log, LogLine, Refusal};
+pub use log_line::{Log, LogLine, NewIds, Refusal};
 pub use printer::{print_line, why_word};
 
 /// The version that is written, and by which a log is read whose first line names it.
 pub const VERSION: u8 = 2;
+/// The version of a log that tells which ids vertices and faces have, and by which a log is read whose first line names it.
+pub const IDS_VERSION: u8 = 3;
 /// The version by which any other log is read.
 pub const OLD_VERSION: u8 = 1;
 /// The greatest count of meshes, steps, lines and faces.

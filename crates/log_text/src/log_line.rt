@@ -22,6 +22,13 @@ pub enum Refusal {
     StepUse { line: u32, why: UseWhy },
 }
 
+/// Ids that vertices, or faces, take in turn, by rising id, and the one that the next of them takes.
+#[derive(Drop)]
+pub struct NewIds {
+    pub next: u32,
+    pub ids: Items<u32>,
+}
+
 /// A line of a log.
 #[derive(Drop)]
 pub enum LogLine {
@@ -31,6 +38,10 @@ pub enum LogLine {
     Mesh { k: u32, vertices: u32, faces: u32 },
     /// Step `k` begins, counted from 1.
     Step { k: u32 },
+    /// The live vertices take these ids.
+    Vertices(NewIds),
+    /// The live faces take these ids.
+    Faces(NewIds),
     /// A vertex is solid from here on.
     Solid { v: VertexId },
     /// A pair of the asked step that doesn't pass.

@@ -5,7 +5,7 @@ ghost use Rattle.mesh_base.specs.declared.UseWhy.TheVariants.{NoField};
 ghost use Rattle.log_text.specs.Lines as spec;
 
 use crate::edit_printer::{print_change, print_no, print_pass};
-use crate::fields::{print_block, put_words};
+use crate::fields::{print_block, print_new_ids, put_words};
 use crate::log_line::{LogLine, Refusal};
 use grid_base::NoMemory;
 use line_text::{Field, TextFault, TextWhy};
@@ -302,6 +302,8 @@ fn put_any(line: &LogLine, into: &mut Vec<u8>) -> Result<(), NoMemory>
         LogLine::First { version } => print_first(*version, into),
         LogLine::Mesh { k, vertices, faces } => print_mesh(*k, *vertices, *faces, into),
         LogLine::Step { k } => print_step(*k, into),
+        LogLine::Vertices(new) => print_new_ids(b"vertices", new, into),
+        LogLine::Faces(new) => print_new_ids(b"faces", new, into),
         LogLine::Solid { v } => print_solid(*v, into),
         LogLine::Hit(pair) => print_hit(*pair, into),
         LogLine::Block(ids) => print_block(ids, into),

@@ -3,7 +3,7 @@ ghost use Rattle.std.specs.Prelude.{◌≡◌, IfOk};
 
 use edit_base::Change;
 use grid_base::{NoMemory, copy_of};
-use log_text::LogLine;
+use log_text::{LogLine, NewIds};
 use std::alloc::Global;
 
 // The same edit.
@@ -38,6 +38,16 @@ fn copy_of_change(alloc: Global, change: &Change) -> Result<Change, NoMemory>
     }
 }
 
+// The same ids.
+fn copy_of_ids(alloc: Global, new: &NewIds) -> Result<NewIds, NoMemory>
+    ensures { IfOk result (λ copy. copy ≡ new.now) }
+{
+    Ok(NewIds {
+        next: new.next,
+        ids: copy_of(alloc, new.ids.as_slice())?,
+    })
+}
+
 /// The same line.
 pub fn copy_of_line(alloc: Global, line: &LogLine) -> Result<LogLine, NoMemory>
     ensures { IfOk result (λ copy. copy ≡ line.now) }
@@ -50,6 +60,8 @@ pub fn copy_of_line(alloc: Global, line: &LogLine) -> Result<LogLine, NoMemory>
             faces: *faces,
         }),
         LogLine::Step { k } => Ok(LogLine::Step { k: *k }),
+        LogLine::Vertices(new) => Ok(LogLine::Vertices(copy_of_ids(alloc, new)?)),
+        LogLine::Faces(new) => Ok(LogLine::Faces(copy_of_ids(alloc, new)?)),
         LogLine::Solid { v } => Ok(LogLine::Solid { v: *v }),
         LogLine::Hit(pair) => Ok(LogLine::Hit(*pair)),
         LogLine::Block(ids) => Ok(LogLine::Block(copy_of(alloc, ids.as_slice())?)),

@@ -87,6 +87,8 @@ goes_other s (line.Mesh k vertices faces) other = record { passes = λ f. tt; cl
 goes_other s (line.Step k) other = record { passes = λ f. tt; clear = λ f. tt }
 goes_other s (line.Solid v) other = record { passes = λ f. tt; clear = λ f. tt }
 goes_other s (line.Hit pair) other = record { passes = λ f. tt; clear = λ f. tt }
+goes_other s (line.Vertices new) other = record { passes = λ f. tt; clear = λ f. tt }
+goes_other s (line.Faces new) other = record { passes = λ f. tt; clear = λ f. tt }
 goes_other s (line.Block ids) other = record { passes = λ f. tt; clear = λ f. tt }
 goes_other s (line.Move shift) other = record { passes = λ f. tt; clear = λ f. tt }
 goes_other s (line.Moved how) other = absurd (other how refl)
@@ -125,6 +127,8 @@ may_be_tried s (line.Mesh k vertices faces) valid = tt
 may_be_tried s (line.Step k) valid = tt
 may_be_tried s (line.Solid v) valid = tt
 may_be_tried s (line.Hit pair) valid = tt
+may_be_tried s (line.Vertices new) valid = tt
+may_be_tried s (line.Faces new) valid = tt
 may_be_tried s (line.Block ids) valid = tt
 may_be_tried s (line.Move shift) valid = tt
 may_be_tried s (line.Moved how) valid = tt

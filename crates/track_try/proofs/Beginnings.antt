@@ -8,7 +8,7 @@ use Rattle.mesh_base.specs.declared.How.{How}
 use Rattle.mesh_base.specs.declared.How.TheVariants.{Whole, Impulse, Zones, Halved, Zero}
 use Rattle.log_text.specs.declared.log_line.LogLine.{LogLine}
 use Rattle.log_text.specs.declared.log_line.LogLine.TheVariants as line
-use Rattle.log_text.specs.Lines.{body_of, asked_words, reason_words, refusal_words, pass_words, how_words}
+use Rattle.log_text.specs.Lines.{new_ids_words, body_of, asked_words, reason_words, refusal_words, pass_words, how_words}
 use Rattle.outside_io.specs.ToldLines.{tells_step, tells_whole_step, tells_split}
 use Rattle.track_try.specs.Summary.{is_step_line, is_whole_step_line, is_split_line}
 
@@ -41,6 +41,8 @@ step_told (line.Mesh k v f) = refl
 step_told (line.Step k) = refl
 step_told (line.Solid v) = refl
 step_told (line.Hit pair) = refl
+step_told (line.Vertices new) = by_first tells_step false (codes "vertices") (new_ids_words new) refl
+step_told (line.Faces new) = by_first tells_step false (codes "faces") (new_ids_words new) refl
 step_told (line.Block ids) = by_first tells_step false (codes "block") (map decimal ids) refl
 step_told (line.Move s) = refl
 step_told (line.Moved how) = by_first tells_step false (codes "moved") (how_words how) refl
@@ -75,6 +77,8 @@ whole_told (line.Mesh k v f) = refl
 whole_told (line.Step k) = refl
 whole_told (line.Solid v) = refl
 whole_told (line.Hit pair) = refl
+whole_told (line.Vertices new) = by_first tells_whole_step false (codes "vertices") (new_ids_words new) refl
+whole_told (line.Faces new) = by_first tells_whole_step false (codes "faces") (new_ids_words new) refl
 whole_told (line.Block ids) = by_first tells_whole_step false (codes "block") (map decimal ids) refl
 whole_told (line.Move s) = refl
 whole_told (line.Moved how) = whole_how how
@@ -102,6 +106,8 @@ split_told (line.Mesh k v f) = refl
 split_told (line.Step k) = refl
 split_told (line.Solid v) = refl
 split_told (line.Hit pair) = refl
+split_told (line.Vertices new) = by_first tells_split false (codes "vertices") (new_ids_words new) refl
+split_told (line.Faces new) = by_first tells_split false (codes "faces") (new_ids_words new) refl
 split_told (line.Block ids) = by_first tells_split false (codes "block") (map decimal ids) refl
 split_told (line.Move s) = refl
 split_told (line.Moved how) = by_first tells_split false (codes "moved") (how_words how) refl

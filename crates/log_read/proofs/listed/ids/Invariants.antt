@@ -6,5 +6,5 @@ use Rattle.log_read.proofs.listed.ids.Given as goal
 
 abbrev pub invariant-loop-word : goal.invariant-loop-word
 invariant-loop-word l =
-    (ids_add l.ids l.low (parts_left l.word-iterator) ≡ ids_add [] 1 (parts_left l.words))
+    (ids_add ID_MAX l.ids l.low (parts_left l.word-iterator) ≡ ids_add ID_MAX [] 1 (parts_left l.words))
     × (l.low ≤ ID_MAX + 1)

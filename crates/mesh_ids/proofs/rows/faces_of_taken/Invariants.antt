@@ -1,0 +1,8 @@
+use Rattle.std.proofs.Common.{◌≡◌, ◌++◌, map, drop}
+use Rattle.mesh_ids.specs.NewIds.{new_id}
+use Rattle.mesh_ids.specs.Rows.{face_row}
+use Rattle.mesh_ids.proofs.rows.faces_of_taken.Given as goal
+
+-- the rows so far and those to come are all
+abbrev pub invariant-loop-f : goal.invariant-loop-f
+invariant-loop-f g l = l.rows ++ map (face_row (g.S.Surface.mesh l.mesh) (λ f. f) (new_id l.old l.ids)) (drop l.f-index l.faces) ≡ map (face_row (g.S.Surface.mesh l.mesh) (λ f. f) (new_id l.old l.ids)) l.faces

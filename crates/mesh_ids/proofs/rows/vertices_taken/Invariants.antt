@@ -1,0 +1,8 @@
+use Rattle.std.proofs.Common.{◌≡◌, ◌++◌, map, drop}
+use Rattle.mesh_ids.specs.NewIds.{new_id}
+use Rattle.mesh_ids.specs.Rows.{vertex_row}
+use Rattle.mesh_ids.proofs.rows.vertices_taken.Given as goal
+
+-- the rows so far and those to come are all
+abbrev pub invariant-loop-v : goal.invariant-loop-v
+invariant-loop-v g l = l.rows ++ map (vertex_row (g.S.Surface.mesh l.mesh) (new_id l.old l.ids)) (drop l.v-index l.old) ≡ map (vertex_row (g.S.Surface.mesh l.mesh) (new_id l.old l.ids)) l.old

@@ -1,0 +1,3 @@
+pub mod NewIds
+pub mod Rows
+pub mod Laws

@@ -1,0 +1,9 @@
+//! A mesh whose vertices or faces take new ids.
+#![tactic(auto)]
+
+pub mod laws;
+mod ranks;
+mod rows;
+mod taking;
+
+pub use taking::{with_face_ids, with_vertex_ids};
