@@ -10,8 +10,8 @@ use crate::replay_state::ReplayState;
 use grid_base::{ID_MAX, NoMemory};
 use log_text::NewIds;
 use mesh_base::Surface;
-use mesh_ids::{with_face_ids, with_vertex_ids};
 use mesh_journal::JournalMesh;
+use mesh_rename::{with_face_ids, with_vertex_ids};
 use std::alloc::Global;
 
 // Whether ids rise from 1 on, and are below the next one.

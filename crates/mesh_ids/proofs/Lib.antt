@@ -1,4 +1,3 @@
 pub mod Turns
 pub mod Renaming
 pub mod Taken
-pub mod MadeIds

@@ -1,3 +1,2 @@
 pub mod NewIds
-pub mod Rows
 pub mod Laws

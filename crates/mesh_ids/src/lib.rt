@@ -1,9 +1,4 @@
-//! A mesh whose vertices or faces take new ids.
+//! What a mesh is whose vertices or faces take new ids.
 #![tactic(auto)]
 
 pub mod laws;
-mod ranks;
-mod rows;
-mod taking;
-
-pub use taking::{with_face_ids, with_vertex_ids};

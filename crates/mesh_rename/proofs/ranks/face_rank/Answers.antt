@@ -2,7 +2,7 @@ use Rattle.std.proofs.Common.{ℕ, sym, rules}
 use Rattle.std.specs.Prelude.{nat_le}
 use Rattle.std.proofs.lemmas.List.Sorted.{IsPartitionedBy-leb, IsPartitionPoint-from_clause}
 use Rattle.obj_text.proofs.Ranks.{passing_are}
-use Rattle.mesh_ids.proofs.ranks.face_rank.Goals as goal
+use Rattle.mesh_rename.proofs.ranks.face_rank.Goals as goal
 
 pub returns : goal.returns
 returns c =

@@ -1,7 +1,7 @@
 use Rattle.std.proofs.Common.{◌≡◌, ◌++◌, map, drop}
 use Rattle.mesh_ids.specs.NewIds.{new_id}
-use Rattle.mesh_ids.specs.Rows.{face_row}
-use Rattle.mesh_ids.proofs.rows.faces_of_taken.Given as goal
+use Rattle.mesh_rename.specs.Rows.{face_row}
+use Rattle.mesh_rename.proofs.rows.faces_of_taken.Given as goal
 
 -- the rows so far and those to come are all
 abbrev pub invariant-loop-f : goal.invariant-loop-f

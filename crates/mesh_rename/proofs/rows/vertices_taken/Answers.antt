@@ -1,8 +1,8 @@
 use Rattle.std.proofs.Common.{ℕ, ap, ◌∙◌}
 use Rattle.mesh_ids.specs.NewIds.{new_id}
-use Rattle.mesh_ids.specs.Rows.{vertex_row}
-use Rattle.mesh_ids.proofs.MadeIds.{more_rows}
-use Rattle.mesh_ids.proofs.rows.vertices_taken.Goals as goal
+use Rattle.mesh_rename.specs.Rows.{vertex_row}
+use Rattle.mesh_rename.proofs.MadeIds.{more_rows}
+use Rattle.mesh_rename.proofs.rows.vertices_taken.Goals as goal
 
 pub loop-v-preserved : goal.loop-v-preserved
 loop-v-preserved g c =

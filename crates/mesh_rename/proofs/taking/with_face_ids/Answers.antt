@@ -9,9 +9,9 @@ use Rattle.mesh_rows.specs.declared.MeshRows.{MeshRows}
 use Rattle.mesh_rows.specs.Rows.{mesh_of_rows}
 use Rattle.obj_text.proofs.Ranks.{keys_rise}
 use Rattle.mesh_ids.specs.NewIds.{new_id, with_face_ids}
-use Rattle.mesh_ids.specs.Rows.{vertex_row, face_row, solid_ids}
-use Rattle.mesh_ids.proofs.MadeIds.{faces_made}
-use Rattle.mesh_ids.proofs.taking.with_face_ids.Goals as goal
+use Rattle.mesh_rename.specs.Rows.{vertex_row, face_row, solid_ids}
+use Rattle.mesh_rename.proofs.MadeIds.{faces_made}
+use Rattle.mesh_rename.proofs.taking.with_face_ids.Goals as goal
 
 pub faces_taken-requires : goal.faces_taken-requires
 faces_taken-requires g c = subst IsNonDecreasing (sym (c.as_slice-2.ensures ∙ c.in_ok-old.ensures)) (keys_rise (g.S.Surface.mesh c.args.mesh.now).faces)

@@ -1,7 +1,7 @@
 use Rattle.std.proofs.Common.{◌≡◌, ◌++◌, map, drop}
 use Rattle.mesh_ids.specs.NewIds.{new_id}
-use Rattle.mesh_ids.specs.Rows.{vertex_row}
-use Rattle.mesh_ids.proofs.rows.vertices_taken.Given as goal
+use Rattle.mesh_rename.specs.Rows.{vertex_row}
+use Rattle.mesh_rename.proofs.rows.vertices_taken.Given as goal
 
 -- the rows so far and those to come are all
 abbrev pub invariant-loop-v : goal.invariant-loop-v

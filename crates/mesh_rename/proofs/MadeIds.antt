@@ -22,7 +22,7 @@ use Rattle.mesh_rows.specs.declared.VertexRow.{VertexRow}
 use Rattle.mesh_rows.specs.declared.FaceRow.{FaceRow}
 use Rattle.mesh_rows.specs.Rows.{vertex_entry, face_entry, solid_entry, mesh_of_rows}
 use Rattle.mesh_ids.specs.NewIds.{vertex_id, face_id, renamed, with_vertex_ids, with_face_ids}
-use Rattle.mesh_ids.specs.Rows.{vertex_row, face_row, solid_ids}
+use Rattle.mesh_rename.specs.Rows.{vertex_row, face_row, solid_ids}
 use Rattle.mesh_ids.proofs.Taken.{same_entries, itself}
 
 each_got : {X : Type 0} (entries : FinMap nat_cmp X) (es : List (ℕ × X)) → AllByRecursion (λ e. find nat_cmp e.0 (finite.entries entries) ≡ Some e.1) es → AllByRecursion (λ e. finite.get entries e.0 ≡ Some e.1) es

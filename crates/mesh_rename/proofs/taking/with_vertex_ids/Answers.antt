@@ -10,9 +10,9 @@ use Rattle.mesh_rows.specs.Rows.{mesh_of_rows}
 use Rattle.obj_text.proofs.InOrder.{few_ids}
 use Rattle.obj_text.proofs.Ranks.{keys_rise}
 use Rattle.mesh_ids.specs.NewIds.{new_id, with_vertex_ids}
-use Rattle.mesh_ids.specs.Rows.{vertex_row, face_row, solid_ids}
-use Rattle.mesh_ids.proofs.MadeIds.{vertices_made}
-use Rattle.mesh_ids.proofs.taking.with_vertex_ids.Goals as goal
+use Rattle.mesh_rename.specs.Rows.{vertex_row, face_row, solid_ids}
+use Rattle.mesh_rename.proofs.MadeIds.{vertices_made}
+use Rattle.mesh_rename.proofs.taking.with_vertex_ids.Goals as goal
 
 pub vertices_taken-requires-clause-rising : goal.vertices_taken-requires-clause-rising
 vertices_taken-requires-clause-rising g c = subst IsNonDecreasing (sym (c.as_slice.ensures ∙ c.in_ok-old.ensures)) (keys_rise (g.S.Surface.mesh c.args.mesh.now).points)

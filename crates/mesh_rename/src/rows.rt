@@ -3,7 +3,7 @@ ghost use Rattle.std.specs.Prelude.{◌≡◌, ◌≤◌, length, map, IfOk};
 ghost use Rattle.std.specs.List.Sorted.{IsNonDecreasing};
 ghost use Rattle.grid_base.specs.declared.TheConstants.{VERTICES_MAX};
 ghost use Rattle.mesh_ids.specs.NewIds.{new_id, renamed};
-ghost use Rattle.mesh_ids.specs.Rows.{vertex_row, corners_at, face_row, solid_ids};
+ghost use Rattle.mesh_rename.specs.Rows.{vertex_row, corners_at, face_row, solid_ids};
 
 use crate::ranks::{face_id, vertex_id};
 use grid_base::NoMemory;
