@@ -14,7 +14,7 @@ import sys
 
 # nothing is left beside the examples
 sys.dont_write_bytecode = True
-from replay import read, read_mesh, replay, text_of, write  # noqa: E402
+from replay import new_ids, read, read_mesh, replay, text_of, write  # noqa: E402
 
 def known_of(text):
     """What stands behind the coordinates of each vertex."""
@@ -27,7 +27,7 @@ def carried(known, log, mesh):
     """The number of each saved mesh, the mesh, and what is known of its vertices."""
     solid, groups = set(), []
     for kind, words, mesh in replay(mesh, log):
-        ids = [int(word) for word in words] if kind in ("split", "collapse", "pinch", "solid", "mesh") else []
+        ids = [int(word) for word in words] if kind in ("split", "collapse", "pinch", "solid", "mesh", "vertices") else []
         if kind == "split":
             a, b, w = ids[:3]
             known[w] = mean(known[a], known[b])
@@ -37,6 +37,9 @@ def carried(known, log, mesh):
             solid |= {a} if b in solid else set()
         elif kind == "pinch":
             known.update((w, known[ids[0]]) for w in ids[4::4])
+        elif kind == "vertices":
+            new = new_ids(known, ids[1:])
+            known, solid = {new[v]: its for v, its in known.items()}, {new[v] for v in solid}
         elif kind == "solid":
             solid.add(ids[0])
         elif kind == "group":

@@ -52,8 +52,8 @@ class Mesh:
     def state(self):
         return dict(self.points), dict(self.faces), self.next_vertex, self.next_face
 
-    def take_back(self, state):
-        self.points, self.faces, self.next_vertex, self.next_face = state
+    def take(self, points, faces, next_vertex, next_face):
+        self.points, self.faces, self.next_vertex, self.next_face = points, faces, next_vertex, next_face
         self.faces_at = {v: set() for v in self.points}
         for f, corners in self.faces.items():
             for v in corners:
@@ -109,7 +109,20 @@ def pinch(mesh, v, *told):
         mesh.add(tuple(point))
         mesh.remake(faces, v, w)
 
-EDITS = {"split": split, "flip": flip, "collapse": collapse, "zip": join, "pinch": pinch}
+# ---- new ids, by the numbers of their line: the vertices, or the faces, take them in turn
+
+def take_vertices(mesh, next_vertex, *ids):
+    new = new_ids(mesh.points, ids)
+    faces = {f: tuple(new[v] for v in corners) for f, corners in mesh.faces.items()}
+    mesh.take({new[v]: point for v, point in mesh.points.items()}, faces, next_vertex, mesh.next_face)
+
+def take_faces(mesh, next_face, *ids):
+    new = new_ids(mesh.faces, ids)
+    mesh.take(mesh.points, {new[f]: corners for f, corners in mesh.faces.items()}, mesh.next_vertex, next_face)
+
+def new_ids(old, ids): return dict(zip(sorted(old), ids))
+
+CHANGES = {"split": split, "flip": flip, "collapse": collapse, "zip": join, "pinch": pinch, "vertices": take_vertices, "faces": take_faces}
 
 # ---- texts
 
@@ -154,9 +167,9 @@ def replay(mesh, log):
         elif kind == "close":
             state = groups.pop()
             if words == ["undone"]:
-                mesh.take_back(state)
-        elif kind in EDITS:
-            EDITS[kind](mesh, *map(int, words))
+                mesh.take(*state)
+        elif kind in CHANGES:
+            CHANGES[kind](mesh, *map(int, words))
         yield kind, words, mesh
 
 def read(name):

@@ -58,6 +58,9 @@ def is_valid(tree, claim, start, end):
 
 # ---- Meshes. A motion is a map from the vertices that move to where they start and end, in half units.
 
+# the greatest id of a vertex or face
+ID_MAX = 2**31
+
 class Mesh:
     def __init__(self, points, faces, solid, next_vertex, next_face):
         self.points, self.faces, self.solid = dict(points), dict(faces), set(solid)
@@ -68,13 +71,25 @@ class Mesh:
     def add(self, point):
         self.points[self.next_vertex] = point
         self.next_vertex += 1
+        need(self.next_vertex <= ID_MAX + 1, "no id is left")
         return self.next_vertex - 1
 
     def exchange(self, dropped, made):
         self.faces.update(enumerate(made, self.next_face))
         self.next_face += len(made)
+        need(self.next_face <= ID_MAX + 1, "no id is left")
         for face in dropped:
             del self.faces[face]
+
+    def take_vertices(self, ids):
+        """The vertices take these ids in turn, and the next one the last of them."""
+        new, self.next_vertex = dict(zip(sorted(self.points), ids)), ids[-1]
+        self.points = {new[v]: point for v, point in self.points.items()}
+        self.faces = {f: tuple(new[v] for v in corners) for f, corners in self.faces.items()}
+        self.solid = {new[v] for v in self.solid}
+
+    def take_faces(self, ids):
+        self.faces, self.next_face = dict(zip(ids, (self.faces[f] for f in sorted(self.faces)))), ids[-1]
 
     def at(self, *vertices):
         """The faces that have all these corners, rising."""
@@ -253,6 +268,13 @@ def numbers(words, count):
     need(len(words) == count and all(re.fullmatch("0|-?[1-9][0-9]{0,24}", word) for word in words), f"numbers: {words}")
     return [int(word) for word in words]
 
+def new_ids(words, count):
+    """The ids that so many take in turn, rising from 1 on, and behind them the next one, which the line tells first."""
+    last, *ids = numbers(words, count + 1)
+    ids.append(last)
+    need(last <= ID_MAX + 1 and all(v < w for v, w in zip([0, *ids], ids)), f"ids: {words}")
+    return ids
+
 def read_tree(lines, level=0):
     kind, *words = next(lines, "").split(" ")
     if kind == "half":
@@ -280,7 +302,7 @@ def read_proof(lines):
 
 def replay(mesh, lines, motions):
     """Takes the lines of the log that change something, with a certificate for each motion."""
-    need(lines[:1] in (["topo log 1"], ["topo log 2"]) and lines[-1] == "", "the log has no head, or a line without an end")
+    need(lines[0] in ("topo log 1", "topo log 2", "topo log 3") and lines[-1] == "", "the log has no head, or a line without an end")
     step, groups = None, []
     for number, line in enumerate(lines[1:-1], 2):
         kind, *words = line.split(" ")
@@ -304,6 +326,10 @@ def replay(mesh, lines, motions):
         elif kind == "solid":
             need(numbers(words, 1)[0] in mesh.points, f"{at}: no vertex")
             mesh.solid.add(int(words[0]))
+        elif kind in ("vertices", "faces"):
+            need(lines[0] == "topo log 3" and not groups, f"{at}: no new ids may be taken")
+            ids = new_ids(words, len(mesh.points if kind == "vertices" else mesh.faces))
+            (mesh.take_vertices if kind == "vertices" else mesh.take_faces)(ids)
         elif kind == "group":
             need(not words and len(groups) < 8, f"{at}: no group may begin")
             groups.append(mesh.copy())

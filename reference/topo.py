@@ -141,6 +141,14 @@ class Mesh:
     def with_faces(self, made):
         """New faces under the next ids, in order; so the faces of a mesh stand by rising id."""
         return self.changed(faces={**self.faces, **dict(enumerate(made, self.next_face))}, next_face=self.next_face + len(made))
+    def with_vertex_ids(self, next_vertex, *ids):
+        """The vertices take these "new ids" in turn, and the next one gets the first number."""
+        new = dict(zip(sorted(self.points), ids))
+        faces = {f: tuple(new[v] for v in corners) for f, corners in self.faces.items()}
+        return Mesh({new[v]: self.points[v] for v in sorted(self.points)}, faces, frozenset(new[v] for v in self.solid), next_vertex, self.next_face)
+    def with_face_ids(self, next_face, *ids):
+        """The same of faces."""
+        return self.changed(faces=dict(zip(ids, (self.faces[f] for f in sorted(self.faces)))), next_face=next_face)
 
 # The mesh of lists: ids are places, from 1, and no vertex is solid.
 def mesh_of(points, faces): return Mesh(dict(enumerate(points, 1)), dict(enumerate(faces, 1)), frozenset(), len(points) + 1, len(faces) + 1)
@@ -480,6 +488,7 @@ def read_steps(text):
 
 FORMS = {
     "topo log": "version", "mesh": "mesh_number vertices faces", "step": "step_number", "solid": "id", "hit": "edge id", "block": "block",
+    "vertices": "new_ids", "faces": "new_ids",
     "move": "id shift", "moved whole": "", "moved impulse": "passes", "moved zones": "rounds", "moved halved": "halvings", "moved zero": "",
     "pass split": "length", "pass collapse": "length", "pass flip": "", "pass zip": "length", "pass pinch": "", "pass fit": "",
     "split": "edge id point", "flip": "edge", "collapse": "edge point", "zip": "edge edge turn", "pinch": "pinch",
@@ -491,10 +500,12 @@ FORMS = {
     "refused shape vertices": "count", "refused shape faces": "count", "refused shape corner": "line corner", "refused shape repeated": "line",
     "refused shape doubled": "line line", "refused shape unbalanced": "line line",
 }
-ONLY_IN_VERSION_2 = ("solid", "group", "close kept", "close undone", "pass fit",
-                     "refused long log", "refused long proof", "refused missing log", "refused missing proof")
+# the first version of which a form is, where it is not the first of all
+VERSION_OF = {**dict.fromkeys(("solid", "group", "close kept", "close undone", "pass fit",
+                               "refused long log", "refused long proof", "refused missing log", "refused missing proof"), 2),
+              "vertices": 3, "faces": 3}
 RANGES = {
-    "mesh_number": (0, NUMBER_MAX), "step_number": (1, NUMBER_MAX), "id": (1, ID_MAX),
+    "mesh_number": (0, NUMBER_MAX), "step_number": (1, NUMBER_MAX), "id": (1, ID_MAX), "next_id": (1, ID_MAX + 1),
     "passes": (1, PASSES_MAX), "halvings": (1, HALVINGS_MAX), "length": (0, LENGTH_MAX), "turn": (0, 3),
     "count": (0, COUNT_MAX), "line": (1, NUMBER_MAX), "corner": (1, 3), "coordinate": (-BOX, BOX), "component": (-SHIFT_MAX, SHIFT_MAX),
 }
@@ -515,14 +526,14 @@ def is_number(word, kind):
 def are_numbers(words, kinds): return len(words) == len(kinds) and all(map(is_number, words, kinds))
 
 # The reasons of a refused edit, but for `hit`.
-def reasons_of(version): return REASONS if version == 2 else REASONS[:-1]
+def reasons_of(version): return REASONS if version > 1 else REASONS[:-1]
 # What a directive is refused for, and of what numbers.
-def uses_of(version): return {use: numbers for use, numbers in USES.items() if version == 2 or use != "solid"}
+def uses_of(version): return {use: numbers for use, numbers in USES.items() if version > 1 or use != "solid"}
 
 def words_wanted(kind, words, version):
     """How many of the words a value of this kind takes."""
-    if kind == "block":
-        return max(2, len(words))
+    if kind in ("block", "new_ids"):
+        return max({"block": 2, "new_ids": 1}[kind], len(words))
     if kind == "pinch":
         return max(8, len(words) + -len(words) % 4)
     if kind == "reason" and words and words[0] not in reasons_of(version):
@@ -537,6 +548,9 @@ def is_value(kind, words, version):
         return words == [str(version)]
     if kind in ("edge", "block"):
         return are_numbers(words, ["id"] * len(words)) and all(int(v) < int(w) for v, w in zip(words, words[1:]))
+    if kind == "new_ids":
+        # rising ids, and before them the next one, which is above them all
+        return is_number(words[0], "next_id") and is_value("block", words[1:], version) and all(int(v) < int(words[0]) for v in words[1:])
     if kind in ("shift", "point"):
         return are_numbers(words, ["component" if kind == "shift" else "coordinate"] * 3)
     if kind == "pinch":
@@ -546,14 +560,14 @@ def is_value(kind, words, version):
     if kind == "reason":
         return words[0] in reasons_of(version)
     if kind in ("why_mesh", "why_steps"):
-        return words[0] in WHYS or version == 2 and kind == "why_steps" and words[0] == "nesting"
+        return words[0] in WHYS or version > 1 and kind == "why_steps" and words[0] == "nesting"
     if kind == "use":
         return words[0] in uses_of(version) and are_numbers(words[1:], USES[words[0]])
     return is_number(words[0], kind)
 
 def form_of(words, version, number):
     """The form to which the fixed words lead at which a line begins."""
-    forms = [form for form in FORMS if version == 2 or form not in ONLY_IN_VERSION_2]
+    forms = [form for form in FORMS if version >= VERSION_OF.get(form, 1)]
     for at in range(1, len(words) + 1):
         fixed = " ".join(words[:at])
         if fixed in forms:
@@ -579,7 +593,7 @@ def log_line(line, is_ended, version, number):
 def read_log(text):
     """The lines of a log, each as its words."""
     *ended, last = text.split("\n")
-    version = 2 if (ended + [last])[0] == "topo log 2" else 1
+    version = {"topo log 2": 2, "topo log 3": 3}.get((ended + [last])[0], 1)
     lines = [(line, True) for line in ended] + ([(last, False)] if last else [])
     return [log_line(line, is_ended, version, number) for number, (line, is_ended) in enumerate(lines, 1)]
 
@@ -640,6 +654,9 @@ class Replay:
         elif kind == "solid":
             need(int(words[1]) in self.mesh.points, Unfit)
             self.mesh = self.mesh.with_solid(int(words[1]))
+        elif kind in ("vertices", "faces"):
+            need(not self.groups and len(words) - 2 == len(self.mesh.points if kind == "vertices" else self.mesh.faces), Unfit)
+            self.mesh = (self.mesh.with_vertex_ids if kind == "vertices" else self.mesh.with_face_ids)(*map(int, words[1:]))
         elif kind == "group":
             need(len(self.groups) < GROUPS_MAX, Unfit)
             self.groups.append(self.mesh)
