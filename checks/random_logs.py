@@ -1,11 +1,11 @@
 #!/usr/bin/env python3
 """Measures, proves and replays the logs of random jobs, whole and spoilt, beside another program.
 
-Jobs are made as random_jobs.py makes them, and tracked by the other program; each log is measured and proved by both as it is, and then
-with a line doubled, left out, exchanged with the next, cut short, or with a number raised by one, at a random place; and the proof of the
-whole log is verified with each of these logs. Compared are status and output; a log that one of the two does not end in time is not
-compared. The program replays each log too: with the status of `measure`, and a whole log to the meshes that the other program stored where
-it tracked the job. The reference neither proves nor verifies: beside it logs of small jobs are measured and replayed alone. The last lines
+Jobs are made as random_jobs.py makes them, and tracked by the other program; each log is measured and proved by both as it is, and as a log
+of version 3, which gives other ids here and there. Both are spoilt then: a line is doubled, left out, exchanged with the next, or cut short,
+or a number is raised by one, or ids are spoilt, at a random place; and the proof of the whole log is verified with each of these logs.
+Compared are status and output; a log that one of the two does not end in time is not compared. The program replays each log too: with the
+status of `measure`, and a whole log, also of version 3, to the meshes that the other program stored where it tracked the job. The reference neither proves nor verifies: beside it logs of small jobs are measured and replayed alone. The last lines
 count statuses, motions that were proved and verified alike, meshes that were replayed, and runs alike; at a difference the log is kept and
 the exit status is 1.
 """
@@ -17,6 +17,7 @@ import sys
 import tempfile
 
 from calling import REFERENCE, add_number, words_of
+from new_ids import with_new_ids
 from random_jobs import job_of, jobs_from, keep, words_of_comparison
 
 
@@ -27,6 +28,9 @@ def spoilt(dice, log):
         return log
     at = dice.randrange(len(lines))
     how = dice.choice(["doubled", "left out", "exchanged", "raised", "raised", "raised", "cut", "other"])
+    told = [i for i, line in enumerate(lines) if line.startswith(("vertices ", "faces "))]
+    if told and dice.random() < 0.4:
+        how, at = "ids", dice.choice(told)
     if how == "doubled":
         lines.insert(at, lines[at])
     elif how == "left out":
@@ -40,12 +44,23 @@ def spoilt(dice, log):
             i = dice.choice(places)
             words[i] = str(int(words[i]) + 1)
         lines[at] = " ".join(words)
+    elif how == "ids":
+        lines[at] = spoilt_ids(dice, lines[at])
     elif how == "cut":
         text = "\n".join(lines) + "\n"
         return text[: dice.randrange(len(text))].encode()
     elif how == "other":
-        lines[at] = dice.choice(["group", "close undone", "close kept", "step 1", "moved whole", "solid 1", "flip 1 2", "end", "pass flip", "mesh 0 8 12", "wrong", ""])
+        lines[at] = dice.choice(["group", "close undone", "close kept", "step 1", "moved whole", "solid 1", "flip 1 2", "end", "pass flip", "mesh 0 8 12", "wrong", "", "vertices 5 1 2 3 4", "faces 9", "topo log 3"])
     return ("\n".join(lines) + "\n").encode()
+
+
+def spoilt_ids(dice, line):
+    """A line of new ids with one fault."""
+    words = line.split(" ")
+    i = dice.randrange(1, len(words))
+    one = dice.choice(words[1:])
+    words[i : i + 1] = dice.choice([[], [words[i]] * 2, [one], ["0"], ["x"], [""], [str(2**31)], [str(2**31 + 1)], [str(2**31 + 2)]])
+    return " ".join(words)
 
 
 def told(program, words, folder, seconds):
@@ -110,7 +125,11 @@ def main():
                 late += 1
                 continue
             tracked = stored_in(os.path.join(folder, "stored"))
-            for at, text in enumerate([log] + [spoilt(dice, log) for _ in range(times)]):
+            new = with_new_ids(dice, mesh, log, *map(int, words[5:]))
+            texts = [(text, n == 0) for whole in (log, new) if whole is not None for n, text in enumerate([whole] + [spoilt(dice, whole) for _ in range(times)])]
+            for text, is_whole in texts:
+                if is_whole and os.path.exists(os.path.join(folder, "proof.txt")):
+                    os.remove(os.path.join(folder, "proof.txt"))
                 with open(os.path.join(folder, "log.txt"), "wb") as it:
                     it.write(text)
                 for command, *files in commands:
@@ -123,13 +142,13 @@ def main():
                     elif one == two:
                         alike += 1
                         statuses[command, one[0]] = statuses.get((command, one[0]), 0) + 1
-                        motions += int(one[1].split()[1]) if at == 0 and command == "verify" and one[0] == 0 else 0
+                        motions += int(one[1].split()[1]) if is_whole and command == "verify" and one[0] == 0 else 0
                     else:
                         unlike += 1
                         kept = keep(number, mesh, text.decode(), [command, "m.obj", "s.txt", *files[2:], *words[4:]])
                         print(f"job {number}: {'status' if one[0] != two[0] else 'output'} of {command} differ; the log is kept as s.txt in {kept}")
                     if command == "measure" and one is not None:
-                        found = fault_of_replay(program, folder, words[4:], one, tracked, at == 0, seconds)
+                        found = fault_of_replay(program, folder, words[4:], one, tracked, is_whole, seconds)
                         if found is None:
                             late += 1
                         elif found[0] is None:
@@ -140,7 +159,7 @@ def main():
                             unlike += 1
                             kept = keep(number, mesh, text.decode(), ["replay", "m.obj", "s.txt", "p", *words[4:]])
                             print(f"job {number}: {found[0]} of replay differ; the log is kept as s.txt in {kept}")
-                    if command == "prove" and at == 0 and two is not None and two[0] == 0:
+                    if command == "prove" and is_whole and two is not None and two[0] == 0:
                         with open(os.path.join(folder, "proof.txt"), "wb") as it:
                             it.write(two[1])
     print("statuses:", ", ".join(f"{command} {status}: {n}" for (command, status), n in sorted(statuses.items())))

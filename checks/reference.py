@@ -17,6 +17,7 @@ import sys
 from broken_meshes import mesh_from
 from calling import ROOT, add_other, reader_of, words_of
 from mutated_texts import run, spoilt
+from new_ids import with_new_ids
 from random_jobs import job_of, keep_files
 
 # what does not end by then hangs; a busy machine is given its time
@@ -30,14 +31,17 @@ SPOILT = (1, 2, 3, 4, 5, 6)
 
 
 def jobs_of_tracking(program):
-    """Jobs that are tracked, each with its log, as the program writes it, measured and replayed."""
+    """Jobs that are tracked, each with its log, as the program writes it and with other ids, measured and replayed."""
     for number, solid in [*((number, None) for number in TRACKED), *WITH_SOLID.items()]:
         mesh, steps, words = job_of(number)
         files = {"m.obj": mesh.encode(), "s.txt": (f"solid {solid}\n" * bool(solid) + steps).encode()}
         commands = [(words, files)]
         if words[0] == "track":
-            files = {"m.obj": files["m.obj"], "l.txt": run(program, words, files, SECONDS)[1]}
-            commands += [(["measure", "m.obj", "l.txt", *words[4:]], files), (["replay", "m.obj", "l.txt", "again", *words[4:]], files)]
+            log = run(program, words, files, SECONDS)[1]
+            new = with_new_ids(random.Random(f"new ids {number}"), mesh, log, *map(int, words[5:]))
+            for text in (log, new) if new else (log,):
+                files = {"m.obj": files["m.obj"], "l.txt": text}
+                commands += [(["measure", "m.obj", "l.txt", *words[4:]], files), (["replay", "m.obj", "l.txt", "again", *words[4:]], files)]
         yield f"tracked {number}{' with a solid vertex' * bool(solid)}", commands
 
 

@@ -1,8 +1,9 @@
 #!/usr/bin/env python3
 """Spoils the logs of the worked cases in every way, and compares what two programs measure.
 
-Of each log of the folder `worked` that tells a run of a mesh, beside the reference of those of at most 150 bytes: each line doubled, left
-out, exchanged with the next, and each number raised by one, one fault at a time. Compared are status and output. The last line counts
+Of each log of the folder `worked` that tells a run of a mesh, or is measured or replayed as a log of version 3, beside the reference of those
+of at most 150 bytes: each line doubled, left out, exchanged with the next, each number raised by one, and each new id left out or made the
+one before, one fault at a time. Compared are status and output. The last line counts
 those alike, and those of each status; at a difference the log is kept and the exit status is 1.
 """
 
@@ -27,6 +28,17 @@ def spoilt(lines):
         for i, word in enumerate(words):
             if word.lstrip("-").isdigit():
                 yield lines[:at] + [" ".join(words[:i] + [str(int(word) + 1)] + words[i + 1 :])] + lines[at + 1 :]
+            if words[0] in ("vertices", "faces") and i:
+                yield lines[:at] + [" ".join(words[:i] + words[i + 1 :])] + lines[at + 1 :]
+                yield lines[:at] + [" ".join(words[:i] + words[i - 1 : i] + words[i + 1 :])] + lines[at + 1 :]
+
+
+def log_of(case):
+    """The log that a case writes, or that of version 3 that it reads."""
+    if case.words[0] == "track" and case.words[1] in case.inputs:
+        return case.log
+    read = case.inputs.get("log.txt", "")
+    return read if case.words[0] in ("measure", "replay") and read.startswith("topo log 3\n") else None
 
 
 def main():
@@ -41,14 +53,15 @@ def main():
     for name in sorted(os.listdir(FOLDER)):
         with open(os.path.join(FOLDER, name)) as it:
             case = Case(it.read())
-        if case.words[0] != "track" or case.words[1] not in case.inputs or not case.log or len(case.log) > longest:
+        log = log_of(case)
+        if not log or len(log) > longest:
             continue
         logs += 1
         mesh, decimals = case.inputs[case.words[1]], case.words[4:]
         with tempfile.TemporaryDirectory() as folder:
             with open(os.path.join(folder, "m.obj"), "w", encoding="utf-8", newline="") as it:
                 it.write(mesh)
-            for lines in spoilt(case.log.split("\n")[:-1]):
+            for lines in spoilt(log.split("\n")[:-1]):
                 text = "".join(line + "\n" for line in lines)
                 with open(os.path.join(folder, "log.txt"), "w", encoding="utf-8", newline="") as it:
                     it.write(text)

@@ -1,7 +1,8 @@
 #!/usr/bin/env python3
 """Runs the program on the cases of `worked`, and compares its status, its log and its files.
 What `verify` is asked is asked of `examples/verify.py` too, which shares nothing with the program and has to accept just what the case accepts;
-`replay` and `examples/replay.py` have to make the stored meshes of a log again, and `examples/carry.py` to find them.
+`replay` and `examples/replay.py` have to make the stored meshes of a log again, and `examples/carry.py` to find them; of a log that is replayed
+the two examples have to make and find what the case stores.
 
 Each call of the program is proved to answer exactly what its definition says, so a case that comes out right shows what the definitions
 say of it: the cases were worked by hand from the rules, or are those of a program that was written apart from this one (`random_..`).
@@ -72,6 +73,19 @@ def difference_of_files(wanted, made):
     return None
 
 
+def fault_of_replayers(words, given, stored):
+    """What is wrong with the meshes that the two examples make and find, or nothing."""
+    with tempfile.TemporaryDirectory() as folder:
+        put_files(folder, given)
+        ran = subprocess.run([sys.executable, REPLAYER, *words], cwd=folder, stdout=subprocess.PIPE, stderr=subprocess.PIPE, timeout=60)
+        made = files_in(folder)
+        carried = subprocess.run([sys.executable, CARRIER, *words], cwd=folder, stdout=subprocess.PIPE, stderr=subprocess.PIPE, timeout=60)
+    for name, ended, said in (("replay", ran, "replayed"), ("carry", carried, "carried")):
+        if ended.returncode != 0 or ended.stdout.decode() != f"{said} {len(stored)}\n":
+            return f"examples/{name}.py ends with {ended.returncode} and says {(ended.stdout + ended.stderr).decode()!r}"
+    return difference_of_files({**given, **stored}, made)
+
+
 def fault_of_replay(program, case):
     """What is wrong with the meshes that are made of the case's log, or nothing. The log is given in the place of the steps."""
     mesh, steps = (word for word in case.words if word in case.inputs)
@@ -85,15 +99,7 @@ def fault_of_replay(program, case):
     fault = difference_of_files({**given, **case.stored}, made)
     if fault:
         return f"replay: {fault}"
-    with tempfile.TemporaryDirectory() as folder:
-        put_files(folder, given)
-        ran = subprocess.run([sys.executable, REPLAYER, *case.words[1:]], cwd=folder, stdout=subprocess.PIPE, stderr=subprocess.PIPE, timeout=60)
-        made = files_in(folder)
-        carried = subprocess.run([sys.executable, CARRIER, *case.words[1:]], cwd=folder, stdout=subprocess.PIPE, stderr=subprocess.PIPE, timeout=60)
-    for name, ended, said in (("replay", ran, "replayed"), ("carry", carried, "carried")):
-        if ended.returncode != 0 or ended.stdout.decode() != f"{said} {len(case.stored)}\n":
-            return f"examples/{name}.py ends with {ended.returncode} and says {(ended.stdout + ended.stderr).decode()!r}"
-    return difference_of_files({**given, **case.stored}, made)
+    return fault_of_replayers(case.words[1:], given, case.stored)
 
 
 def fault_of(program, case):
@@ -116,6 +122,8 @@ def fault_of(program, case):
     fault = difference_of_files({**case.inputs, **case.stored}, made)
     if fault is None and case.words[0] == "track" and case.stored:
         fault = fault_of_replay(program, case)
+    if fault is None and case.words[0] == "replay" and case.status == 0 and not any(word.startswith("--only") for word in case.words):
+        fault = fault_of_replayers(case.words[1:], case.inputs, case.stored)
     return fault
 
 
