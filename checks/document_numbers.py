@@ -112,10 +112,14 @@ SAID = {
         "1 + ((KEY + {by_step} step + {by_cube} c + {by_axis} k) mod {modulus})",
         "would have a size above {SHIFT_MAX};",
         "with a coordinate of a size above {BOX};",
-        "and in version {VERSION} `log` and `proof` as FILE",
-        "is read by version {VERSION}, any other by version {OLD_VERSION}",
+        "and from version {VERSION} on `log` and `proof` as FILE",
+        "is read by that version, any other by version {OLD_VERSION}",
+        "Before version {IDS_VERSION} `vertices` and `faces` are",
+        "| version {IDS_VERSION}: the live vertices,",
+        "**Logs of version {IDS_VERSION}** begin",
         "Version {OLD_VERSION} has no fixed vertices",
-        "| ids | 1 to {ID_MAX}, the second",
+        "| ids; NEXT | 1 to {ID_MAX}, the second",
+        "new ids rising; 1 to {ID_MAX+1}, above the new ids |",
         "| 0, and 1, to {number_most}; 0 to {TURN_MAX} |",
         "| P, M; L and D | 1 to {PASSES_MAX}, 1 to {HALVINGS_MAX}; 0 to {LENGTH_MAX} |",
         "| R | 1 to {STANDARD_VERTICES-1}, large to {VERTICES_MAX-1}:",
@@ -155,7 +159,7 @@ SAID = {
     "docs/DEFINITIONS.md": ["The **{directions} directions** are"],
     "docs/ARCHITECTURE.md": ["the written test: {directions} directions over"],
     "docs/PROOFS.md": ["of {proofs_for_c:w} functions that hand pointers to C, and {other_proofs:w} that make a ghost value"],
-    "docs/DECISIONS.md": ["takes away up to {swept:w} such files", "Texts stay below 2^{^TEXT_MAX+1} bytes"],
+    "docs/DECISIONS.md": ["Version {IDS_VERSION} is written only", "takes away up to {swept:w} such files", "Texts stay below 2^{^TEXT_MAX+1} bytes"],
     "docs/EXAMPLES.md": [
         "and how far, 0 to {TURN_MAX}, the second",
         "longer than {high} + d/{high_part}, and collapses it where it is shorter than {low} + d/{low_part}.",
@@ -197,12 +201,13 @@ FREE = [
     (r"PROVED|DEFINITIONS", r"\"3 and 4\"|^## \d+(?: and \d+)?:|of 1/q, at", "headings, which are README.md's promises; a fraction"),
     (r"FORMATS", r"(?:times|divided by) 10 to the power N|with N = 3, -5 is|k - 2|2G = 2C|divided by 2 to the power M", "formulas"),
     (r"FORMATS", r"(?s)and its vertices 8\(c - 1\).*?cut as in OBJ|steps 1, 2 and 3|1 for y, 2 for z", "the job of cubes, which documents.py computes"),
+    (r"FORMATS", r"its rows are the vertices .* the faces 31 to 34", "the example of new ids"),
     (r"FORMATS", r"at most 64 bits|64 small hex digits|HASH is 16 digits", "the widths of types, and of a digest"),
     (r"FORMATS", r"^\| \d+ \| [a-z]", "the statuses, compared as a table"),
     (r"CERTIFICATES", r"\(-?\d+,-?\d+,-?\d+\)|2·(?:start|end)|(?s:Faces 1 \(1,3,2\).*?are dropped, and 5.*?made\.|In half units 1 is at.*?to \(4,0,0\)|The first entry: .*?`missing`)", "the example, whose proof is that of a worked case"),
         (r"LIBRARY", r"\b[0-8]\b", "codes, which are those of library/topo.h"),
     (r"flows", r"[0-4] (?:whole|impulse|zones|halved|zero)|below 5 degrees|below -0\.9", "ways as numbers; the bounds of a figure"),
-    (r"checks/README", r"512 faces", "the head of a script"),
+    (r"checks/README", r"512 faces|version 3 of one of version 2", "the heads of scripts"),
     (r"CONTRIBUTING", r"33 minutes, and 120 of processors", "how long the gate takes, by docs/HARDENING.md"),
 ]
 NUMBER = r"(?<![\w.])-?\d[\d,]*\d(?:\.\d+)*(?!\w)|(?<![\w.,])-?\d(?:\.\d+)*(?![\w,]*\d)|(?<![\w.])\d(?!\w)"
@@ -210,7 +215,6 @@ NUMBER = r"(?<![\w.])-?\d[\d,]*\d(?:\.\d+)*(?!\w)|(?<![\w.,])-?\d(?:\.\d+)*(?![\
 # What is measured may not stand on other pages; these may, with the reason.
 UNITS = r"\b\d[\d.,]*\s?(?:s|ms|µs|ns|seconds?|minutes?|hours?|[KMG]i?B|times|percent|%)(?!\w)|\b(?:half an|an|a quarter of an) hour\b|\b(?:some|few|two) (?:minutes|seconds)\b"
 EXCEPTIONS = {
-    "(25 %)": "docs/FORMATS.md shows what a terminal is told",
     "takes 33 minutes": "CONTRIBUTING.md tells who changes something how long the gate takes",
 }
 

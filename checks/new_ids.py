@@ -1,4 +1,3 @@
-#!/usr/bin/env python3
 """Gives vertices and faces of a log other ids here and there, and so makes a log of version 3 of one of version 2.
 
 It tells the same run as the log that it is made of: it has the same lines in other ids, and `vertices` and `faces` lines between two steps and
