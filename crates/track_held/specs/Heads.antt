@@ -32,6 +32,10 @@ MeshesAreMadeDense =
 abbrev pub unmarked : Mesh → Mesh
 unmarked m = record m { solid = finite.empty }
 
+-- the mesh that is read from the text of a mesh, within the limits of that mesh
+abbrev pub as_read : Mesh → Mesh
+as_read m = record (renumbered Large m) { limits = m.limits }
+
 -- and then the mesh is the one that is read from its text, but for its solid vertices
 abbrev pub DenseMeshesAreRead : Type 0
 DenseMeshesAreRead =
