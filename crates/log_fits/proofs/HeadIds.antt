@@ -19,7 +19,7 @@ use Rattle.mesh_base.proofs.WalkSteps.{both_of}
 use Rattle.mesh_shape.proofs.Lists.{len_numbered}
 use Rattle.mesh_ids.specs.NewIds.{AreRisingBelow, MayTake, vertex_id, renamed, with_vertex_ids, with_face_ids}
 use Rattle.mesh_ids.proofs.Taken.{entries_moved}
-use Rattle.mesh_ids.proofs.TakenBack.{ids_taken_back}
+use Rattle.mesh_ids.proofs.TakenBack.{ids_are_taken_back_lem}
 use Rattle.obj_text.specs.Laws.{renumbered}
 use Rattle.obj_text.specs.Written.{ranks, points_in_order, faces_by_rank}
 use Rattle.obj_text.proofs.Renumbered.{closed_again, clear_again}
@@ -153,7 +153,7 @@ module _ (m : Mesh) (sound : IsSound m) where
       by_test true e = record { is_written = inl refl; leads = ap at_mesh (dense_as_read m sound e); fits = tt; ends = refl; again = tt; safe = tt; range = All-nil (MayFollowAs scale VERSION) }
       by_test false e = record {
         is_written = inr refl;
-        leads = ap at_mesh (ids_taken_back m sound);
+        leads = ap at_mesh (ids_are_taken_back_lem m m.limits sound);
         fits = (
           (refl, refl, subst (λ count. MayTake count (finite.keys m.points) m.next_vertex) (sym as_many_points) vertices_may),
           (refl, refl, subst (λ count. MayTake count (finite.keys m.faces) m.next_face) (sym as_many_named) faces_may),

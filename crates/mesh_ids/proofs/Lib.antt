@@ -1,4 +1,5 @@
 pub mod Turns
 pub mod Renaming
 pub mod Taken
+pub mod TakenBack
 pub mod MadeIds
