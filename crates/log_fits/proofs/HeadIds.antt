@@ -156,11 +156,10 @@ module _ (m : Mesh) (sound : IsSound m) where
         leads = ap at_mesh (ids_are_taken_back_lem m m.limits sound);
         fits = (
           (refl, refl, subst (λ count. MayTake count (finite.keys m.points) m.next_vertex) (sym as_many_points) vertices_may),
-          (refl, refl, subst (λ count. MayTake count (finite.keys m.faces) m.next_face) (sym as_many_named) faces_may),
-          tt,
+          ((refl, refl, subst (λ count. MayTake count (finite.keys m.faces) m.next_face) (sym as_many_named) faces_may), tt),
         );
         ends = refl;
-        again = (tt, tt, tt);
-        safe = (tt, tt, tt);
+        again = (tt, (tt, tt));
+        safe = (tt, (tt, tt));
         range = both_in_range scale;
       }
