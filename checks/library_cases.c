@@ -580,7 +580,6 @@ static void logs_begun(void)
     is("tells no number", number, 77);
     is("a tetrahedron", topo_new(four, 4, sides, 4, &t, &fault), TOPO_DONE);
     is("with a split", (uint32_t)done(TOPO_SPLIT, 1, 2, 0, 0, 5, 0, 20, 0, 0), 1);
-    is("has faces no more that it had", topo_begin_log(&t), TOPO_SPARSE);
     is("its lines", (uint32_t)tells("split 1 2 5 20 0 0\n"), 1);
     is("it is numbered anew", topo_renumber(&t), TOPO_DONE);
     is("vertex 5 is solid", topo_solid(&t, 5, &fault), TOPO_DONE);
@@ -611,6 +610,27 @@ static void logs_begun(void)
     is("or ends", topo_end_log(&t), TOPO_DONE);
     is("has its numbers all the same", number, 1);
     is("and no text", (uint32_t)tells(""), 1);
+    topo_free(&t);
+}
+
+/* logs that begin where ids below the next ones are left out */
+static void logs_of_ids(void)
+{
+    struct topo_answered answer;
+    uint32_t number = 77;
+    is("a tetrahedron", topo_new(four, 4, sides, 4, &t, &fault), TOPO_DONE);
+    is("with a split", (uint32_t)done(TOPO_SPLIT, 1, 2, 0, 0, 5, 0, 20, 0, 0), 1);
+    is("vertex 3 is solid", topo_solid(&t, 3, &fault), TOPO_DONE);
+    is("a log, where it has faces no more that it had", topo_begin_log(&t), TOPO_DONE);
+    is("another split", (uint32_t)done(TOPO_SPLIT, 3, 4, 0, 0, 6, 0, 0, 20, 20), 1);
+    is("a mesh", topo_save(&t, &number), TOPO_DONE);
+    is("is mesh 1", number, 1);
+    is("its end", topo_end_log(&t), TOPO_DONE);
+    is("it tells which ids there were", (uint32_t)tells("topo log 3\nmesh 0 5 6\nvertices 6 1 2 3 4 5\nfaces 9 3 4 5 6 7 8\nsolid 3\nsplit 3 4 6 0 20 20\nmesh 1 6 8\nend\n"), 1);
+    is("another tetrahedron", topo_new(four, 4, sides, 4, &t, &fault), TOPO_DONE);
+    is("is dropped", (uint32_t)(topo_drop(&t, 1, &answer) == TOPO_DONE && answer.why == 0), 1);
+    is("a log of no vertex", topo_begin_log(&t), TOPO_DONE);
+    is("tells which comes next", (uint32_t)tells("topo log 3\nmesh 0 0 0\nvertices 5\nfaces 5\n"), 1);
     topo_free(&t);
 }
 
@@ -833,6 +853,7 @@ int main(void)
     groups_taken_back();
     numbered_anew();
     logs_begun();
+    logs_of_ids();
     stars();
     components();
     joined_and_large();

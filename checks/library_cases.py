@@ -162,8 +162,10 @@ def edits():
         numbers = f"{count['vertices']} {count['faces']}"
         holds("which is whole", surface.log() == f"topo log 2\nmesh 0 {numbers}\nmesh 1 {numbers}\nend\n")
         surface.split(1)
-        says("ids that are not dense", topo.TopoError, "topo_begin_log|topo_renumber goes before", surface.begin_log)
-        surface.forget()
+        surface.begin_log()
+        count, rows = surface.counts(), [" ".join(map(str, ids)) for ids in (surface.vertices(), surface.faces())]
+        told = f"vertices {count['next_vertex']} {rows[0]}\nfaces {count['next_face']} {rows[1]}\n"
+        holds("ids that are not dense are told first", surface.log() == f"topo log 3\nmesh 0 {count['vertices']} {count['faces']}\n{told}")
         holds("its log", log.startswith("split 1 2 5 20 0 0\nno pinch 4 onefan\n") and log.endswith("close undone\nno pinch 4 onefan\n") and surface.log() == "")
         holds("the component goes", surface.drop(1).why == "" and surface.components() == [])
         holds("and then there is no edge", surface.drop(1) == topo.Answer("noedge", 0, 0, 0, None))

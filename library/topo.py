@@ -28,7 +28,7 @@ except ImportError:
     numpy = None
 
 u32, i32, size_t, ref = ctypes.c_uint32, ctypes.c_int32, ctypes.c_size_t, ctypes.byref
-DONE, NO_MEMORY, REFUSED, RANGE, EMPTY, STOPPED, SPENT, GROUPED, SPARSE = range(9)
+DONE, NO_MEMORY, REFUSED, RANGE, EMPTY, STOPPED, SPENT, GROUPED = range(8)
 WAYS = ("whole", "impulse", "zones", "halved", "zero")
 GROUPS = ("none", "kept", "taken back")
 EVENTS = ("", "moved", "split", "flipped", "collapsed", "zipped", "pinched", "solid", "opened", "kept", "undone")
@@ -45,7 +45,6 @@ CODES = {
     STOPPED: "an earlier directive had no memory: the tracker can be read and freed, no more",
     SPENT: "2^32 - 1 steps were taken, or as many meshes saved",
     GROUPED: "a group is open",
-    SPARSE: "an id below the next one is left out: topo_renumber goes before",
 }
 REASONS = {
     1: "no live vertex has the id {a}",
@@ -129,8 +128,8 @@ def load(path):
     lacking = [name for name in CALLS if not hasattr(library, name)]
     if lacking:
         raise ImportError(f"{path} is the library of another topo.h: it has no {', '.join(lacking)}")
-    if library.topo_calls() != 3:
-        raise ImportError(f"{path} is the library of another topo.h: its calls have the version {library.topo_calls()}, and not 3")
+    if library.topo_calls() != 4:
+        raise ImportError(f"{path} is the library of another topo.h: its calls have the version {library.topo_calls()}, and not 4")
     if library.topo_version() != 2:
         raise ImportError(f"{path} has another version of the log than 2")
     return library
@@ -502,8 +501,7 @@ class Tracker:
         self.call("topo_renumber")
 
     def begin_log(self):
-        """Begins a log at the surface as it is: what was told is forgotten, and the first lines of a log file are told. Refused where a group is open, and where
-        an id below the next one is left out: then `renumber` goes before."""
+        """Begins a log at the surface as it is: what was told is forgotten, and the first lines of a log file are told. Refused where a group is open."""
         self.call("topo_begin_log")
 
     def save(self):

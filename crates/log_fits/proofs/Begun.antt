@@ -1,5 +1,5 @@
 -- The log of a caller that is begun at the mesh as it is.
-use Rattle.std.proofs.Common.{◌≡◌, ◌⊎◌, ⊎_elim, inl, inr, ℕ, ◌+◌, Bool, true, false, List, [], ◌∷◌, ◌++◌, length, map, Option, Some, None, refl, sym, ◌∙◌, subst, arith}
+use Rattle.std.proofs.Common.{◌≡◌, ◌⊎◌, ⊎_elim, inl, inr, ℕ, ◌+◌, Bool, true, false, List, [], ◌∷◌, ◌++◌, length, map, Option, Some, None, refl, sym, ap, ◌∙◌, subst, append_assoc, arith}
 use Rattle.std.specs.Prelude.{IsSome}
 use Rattle.std.specs.List.{AllByRecursion}
 use Rattle.std.specs.Cmp.{nat_cmp_total}
@@ -16,29 +16,31 @@ use Rattle.mesh_base.specs.Valid.{IsValidSurface}
 use Rattle.mesh_base.proofs.Finite.{live_after_insert, live_stays, live_inserted, none_in_empty}
 use Rattle.mesh_base.proofs.Listed.{all_filter, at_live}
 use Rattle.mesh_base.proofs.ListedPairs.{all_always, all_filtered, all_weaker}
+use Rattle.obj_text.specs.Laws.{renumbered}
 use Rattle.log_text.specs.declared.LogLine.{LogLine}
-use Rattle.log_text.specs.declared.LogLine.TheVariants.{Solid, End}
+use Rattle.log_text.specs.declared.LogLine.TheVariants.{First, Solid, End}
 use Rattle.log_read.specs.Laws.{IsFrom}
 use Rattle.log_replay.specs.Again.{LineIsAgain, LinesAreAgain}
 use Rattle.log_replay.specs.Laws.{IsWithin}
 use Rattle.log_replay.specs.Replay.{Replay, replayed, after, at_mesh, at_mesh_in_groups}
 use Rattle.log_replay.proofs.Limits.{within_large}
-use Rattle.log_replay.proofs.Replaying.{each_then}
+use Rattle.log_replay.proofs.Replaying.{after_then, each_then}
 use Rattle.run_laws.specs.Directives.{HasRoomFor}
 use Rattle.run_laws.specs.Lines.{MayFollow, AreInRange}
 use Rattle.run_laws.proofs.StepLines.{mesh_in_range}
 use Rattle.track_engine.specs.Effects.{mesh_line}
-use Rattle.track_engine.specs.Kept.{LineHolds, LogIsSafe}
-use Rattle.track_engine.specs.State.{Group, standing, unsaved}
+use Rattle.track_engine.specs.Kept.{IsSavedWell, LineHolds, LogIsSafe}
+use Rattle.track_engine.specs.State.{State, Group, standing, unsaved}
 use Rattle.track_engine.proofs.Keeping.{saved_well}
-use Rattle.track_held.specs.Heads.{unmarked, solid_lines, begun}
+use Rattle.track_held.specs.Heads.{as_read, unmarked, head_version, id_lines, solid_lines, begun}
 use Rattle.track_held.specs.Reading.{solid_vertices}
 use Rattle.log_fits.specs.Fitting.{LinesFit}
-use Rattle.log_fits.specs.Histories.{history, state_after}
-use Rattle.track_held.proofs.DenseIds.{dense_meshes_are_read}
-use Rattle.log_fits.specs.Begun.{log_begun, LogsCanBeBegun, CallersBeginLogs, LogsAreOfTheirFiles}
+use Rattle.log_fits.specs.Histories.{Call, history, state_after}
+use Rattle.log_fits.specs.Begun.{log_begun, CanBeBegun, LogsCanBeBegun, HeadsMakeTheMesh, CallersBeginLogs, LogsAreOfTheirFiles}
 use Rattle.log_fits.proofs.Histories.{AreGood, calls_good, calls_keep, room_at_first}
-use Rattle.log_fits.specs.Logs.{IsLogOf}
+use Rattle.log_fits.specs.Logs.{MayFollowAs, IsLogOf}
+use Rattle.log_fits.proofs.Versions.{may_follow_as}
+use Rattle.log_fits.proofs.HeadIds.{TellTheIds, as_many_points, as_many_faces, read_valid, ids_told}
 use Rattle.log_fits.proofs.Lines.{told, begun_behind, fits_append}
 
 -- ---- vertices that are marked one after another
@@ -152,8 +154,15 @@ ids_in_range m sound = all_weaker (IsLiveVertex m) (IsFrom 1 ID_MAX) (solid_vert
 
 -- ---- the log
 
-pub logs_can_be_begun : LogsCanBeBegun
-logs_can_be_begun scale s calls can within =
+-- the lines of the solid vertices, of the calls, and the last
+record AreBehindIds (scale : Scale) (m : Mesh) (lines : List LogLine) : Type 0 where
+  pub fits : LinesFit (told false (at_mesh (unmarked m))) lines
+  pub again : LinesAreAgain (at_mesh (unmarked m)) lines
+  pub safe : LogIsSafe (at_mesh (unmarked m)) lines
+  pub range : AreInRange scale lines
+
+behind_ids : (scale : Scale) (s : State) (calls : List Call) → CanBeBegun s calls → IsWithin scale s.mesh.limits → AreBehindIds scale s.mesh (solid_lines (solid_vertices s.mesh) ++ (history calls (begun s) ++ End ∷ []))
+behind_ids scale s calls can within =
     let m = s.mesh in
     let kept = can.kept in
     let none = can.closed in
@@ -180,14 +189,55 @@ logs_can_be_begun scale s calls can within =
     let Again : Replay → Type 0 = λ r. LinesAreAgain r rest in
     let Safe : Replay → Type 0 = λ r. LogIsSafe r rest in
     record {
-      rest = mesh_line 0 m ∷ (head ++ rest);
-      lines_are = refl;
-      range = All-cons (MayFollow scale) (mesh_line 0 m) (head ++ rest) (mesh_in_range scale m 0 within sound (omega arith))
-          (All-append (MayFollow scale) head rest (solids_in_range scale solids (ids_in_range m sound)) all.range);
-      fits = (tt, ((refl, refl, refl), fits_append false from head rest (solids_fit from solids (solids_live m sound)) (subst Ends (sym (solids_end solids)) (subst Fit (sym leads) all.fits))));
-      again = (tt, (tt, each_then LineIsAgain from head rest (solids_are_again from solids) (subst Again (sym leads) all.again)));
-      safe = (tt, (saved_well from (unmarked_valid m kept.now.good), each_then LineHolds from head rest (solids_are_safe from solids) (subst Safe (sym leads) all.safe)));
+      fits = fits_append false from head rest (solids_fit from solids (solids_live m sound)) (subst Ends (sym (solids_end solids)) (subst Fit (sym leads) all.fits));
+      again = each_then LineIsAgain from head rest (solids_are_again from solids) (subst Again (sym leads) all.again);
+      safe = each_then LineHolds from head rest (solids_are_safe from solids) (subst Safe (sym leads) all.safe);
+      range = All-append (MayFollow scale) head rest (solids_in_range scale solids (ids_in_range m sound)) all.range;
     }
+
+pub logs_can_be_begun : LogsCanBeBegun
+logs_can_be_begun scale s calls can within =
+    let m = s.mesh in
+    let good = can.kept.now.good in
+    let sound = good.sound in
+    let from : Replay = at_mesh (as_read m) in
+    let version = head_version m in
+    let ids : List LogLine = id_lines m in
+    let solids : List LogLine = solid_lines (solid_vertices m) in
+    let rest : List LogLine = history calls (begun s) ++ End ∷ [] in
+    let tail : List LogLine = solids ++ rest in
+    let told_ids : TellTheIds m sound scale version ids = ids_told m sound scale in
+    let behind : AreBehindIds scale m tail = behind_ids scale s calls can within in
+    let Fit : Replay → Type 0 = λ r. LinesFit (told false r) tail in
+    let Ends : Bool → Type 0 = λ b. LinesFit (told b (after from ids)) tail in
+    let Again : Replay → Type 0 = λ r. LinesAreAgain r tail in
+    let Safe : Replay → Type 0 = λ r. LogIsSafe r tail in
+    let Saved : ℕ → ℕ → Type 0 = λ vertices faces. IsSavedWell from vertices faces in
+    let saved : Saved (finite.len m.points) (finite.len m.faces) =
+    subst (λ vertices. Saved vertices (finite.len m.faces)) (as_many_points m sound) (subst (λ faces. Saved (finite.len (as_read m).points) faces) (as_many_faces m sound) (saved_well from (read_valid m sound good))) in
+    let whole : IsLogOf scale (as_read m) (First version ∷ mesh_line 0 m ∷ (ids ++ tail)) = record {
+      version = version;
+      is_written = told_ids.is_written;
+      rest = mesh_line 0 m ∷ (ids ++ tail);
+      lines_are = refl;
+      range = All-cons (MayFollowAs scale version) (mesh_line 0 m) (ids ++ tail) ((mesh_in_range scale m 0 within sound (omega arith)).0, tt)
+          (All-append (MayFollowAs scale version) ids tail told_ids.range (may_follow_as scale version false (at_mesh (unmarked m)) tail behind.fits behind.range));
+      fits = (tt, ((refl, sym (as_many_points m sound), sym (as_many_faces m sound)), fits_append false from ids tail told_ids.fits (subst Ends (sym told_ids.ends) (subst Fit (sym told_ids.leads) behind.fits))));
+      again = (tt, (tt, each_then LineIsAgain from ids tail told_ids.again (subst Again (sym told_ids.leads) behind.again)));
+      safe = (tt, (saved, each_then LineHolds from ids tail told_ids.safe (subst Safe (sym told_ids.leads) behind.safe)));
+    } in
+    subst (λ (lines : List LogLine). IsLogOf scale (as_read m) (First version ∷ mesh_line 0 m ∷ lines)) (sym (append_assoc ids solids rest)) whole
+
+-- the first lines lead back to the mesh
+pub heads_make_the_mesh : HeadsMakeTheMesh
+heads_make_the_mesh m sound =
+    let ids : List LogLine = id_lines m in
+    let solids : List ℕ = solid_vertices m in
+    let told_ids : TellTheIds m sound Large (head_version m) ids = ids_told m sound Large in
+    let all : after (at_mesh (as_read m)) (ids ++ solid_lines solids) ≡ at_mesh m =
+    after_then (at_mesh (as_read m)) (at_mesh (unmarked m)) (at_mesh m) ids (solid_lines solids) told_ids.leads
+    (solids_told (at_mesh (unmarked m)) solids ∙ (λ i. at_mesh (record m { solid = solids_again m sound i }))) in
+    ap (λ (r : Replay). r.mesh) all
 
 pub callers_begin_logs : CallersBeginLogs
 callers_begin_logs scale m before calls within valid may_before none may few =
@@ -197,6 +247,6 @@ callers_begin_logs scale m before calls within valid may_before none may few =
     (record { kept = room.kept; limits = room.limits; closed = none; may = may; steps = room.steps; saved = omega (arith, few) }) room.within.mesh
 
 pub logs_are_of_their_files : LogsAreOfTheirFiles
-logs_are_of_their_files s calls can large dense =
-    let sound = can.kept.now.good.sound in
-    subst (λ (n : Mesh). IsLogOf Large n (log_begun s calls)) (sym (dense_meshes_are_read s.mesh sound large dense)) (logs_can_be_begun Large s calls can (within_large s.mesh sound))
+logs_are_of_their_files s calls can large =
+    subst (λ limits. IsLogOf Large (record (renumbered Large s.mesh) { limits = limits }) (log_begun s calls)) large
+    (logs_can_be_begun Large s calls can (within_large s.mesh can.kept.now.good.sound))

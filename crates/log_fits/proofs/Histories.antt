@@ -13,7 +13,7 @@ use Rattle.step_choose.specs.Settings.{AreWithinLimits}
 use Rattle.step_text.specs.declared.Directive.{Directive}
 use Rattle.step_text.specs.declared.Directive.TheVariants as directive
 use Rattle.step_text.specs.Ranges.{IsInRange, open_behind}
-use Rattle.log_text.specs.declared.TheConstants.{COUNT_MAX}
+use Rattle.log_text.specs.declared.TheConstants.{COUNT_MAX, VERSION}
 use Rattle.log_text.specs.declared.LogLine.{LogLine}
 use Rattle.log_text.specs.declared.LogLine.TheVariants.{Close, End}
 use Rattle.log_read.specs.Laws.{IsAskedInRange}
@@ -282,6 +282,8 @@ callers_have_logs scale m calls within good may few =
     let all : AreGood scale (unsaved m) rest = calls_good scale calls (unsaved m) (room_at_first scale m (length calls) within good few) may in
     let head : MayFollow scale (mesh_line 0 m) = mesh_in_range scale m 0 within good.sound (omega arith) in
     record {
+      version = VERSION;
+      is_written = inl refl;
       rest = mesh_line 0 m ∷ rest;
       lines_are = refl;
       range = All-cons (MayFollow scale) (mesh_line 0 m) rest head all.range;

@@ -12,7 +12,9 @@ mod Proved
 mod OneAnswer
 mod OneLog
 mod SameFiles
+mod Versions
 mod Logs
 mod Histories
 mod Taken
+mod HeadIds
 mod Begun

@@ -1,14 +1,15 @@
 -- Logs that were written, and their first lines.
-use Rattle.std.proofs.Common.{◌≡◌, ℕ, zero, suc, List, [], ◌∷◌, take, Option, Some, None, Result, Ok, Err, refl, ap, sym, subst, arith}
+use Rattle.std.proofs.Common.{◌≡◌, ◌⊎◌, inl, inr, ℕ, zero, suc, List, [], ◌∷◌, take, Option, Some, None, Result, Ok, Err, refl, ap, sym, subst, arith}
 use Rattle.std.proofs.lemmas.List.Elements.{All-nil, All-cons, All-take}
 use Rattle.mesh_base.specs.declared.Scale.{Scale}
 use Rattle.mesh_base.specs.Limits.{limits_of}
 use Rattle.mesh_base.specs.Mesh.{Mesh}
 use Rattle.step_text.specs.declared.Placed.{Placed}
+use Rattle.log_text.specs.declared.TheConstants.{VERSION, IDS_VERSION}
 use Rattle.log_text.specs.declared.LogLine.{LogLine}
 use Rattle.log_text.specs.Lines.{text_of_lines}
 use Rattle.log_read.specs.Reading.{log_of as lines_of_text}
-use Rattle.log_read.proofs.LogLaws.{written_logs_are_read_lem}
+use Rattle.log_read.proofs.LogLaws.{written_logs_are_read_lem, numbered_logs_are_read_lem}
 use Rattle.mesh_base.proofs.MeshLaws.{small_texts_of}
 use Rattle.log_replay.specs.Laws.{IsWithin}
 use Rattle.log_replay.proofs.Limits.{within_same}
@@ -16,7 +17,7 @@ use Rattle.log_replay.specs.Again.{LineIsAgain, LinesAreAgain}
 use Rattle.log_replay.specs.Replay.{Replay, replayed, at_mesh, EachAt}
 use Rattle.log_run.specs.States.{LogState, without_lines, with_line}
 use Rattle.run_laws.specs.Lines.{MayFollow, AreInRange}
-use Rattle.std.specs.Prelude.{IfSome}
+use Rattle.std.specs.Prelude.{IfSome, All}
 use Rattle.std.specs.declared.option.Option.{Option as Told}
 use Rattle.grid_decided.specs.Decided.{meets_exactly}
 use Rattle.mesh_base.specs.declared.PairName.{PairName}
@@ -26,7 +27,7 @@ use Rattle.mesh_base.specs.Sides.{IsClosed}
 use Rattle.pair_scan.proofs.Clear.{clear_exactly}
 use Rattle.log_text.specs.declared.Refusal.{Refusal}
 use Rattle.log_text.specs.declared.Refusal.TheVariants as refusal
-use Rattle.log_text.specs.declared.LogLine.TheVariants.{Refused as RefusedLine}
+use Rattle.log_text.specs.declared.LogLine.TheVariants.{First, Refused as RefusedLine}
 use Rattle.log_read.specs.Laws.{IsPairInRange}
 use Rattle.outside_io.specs.Desk.{Files}
 use Rattle.run_laws.specs.Inputs.{IsSeen, AreCounted, IsInputInRange}
@@ -39,14 +40,21 @@ use Rattle.track_engine.specs.Answered.{Known}
 use Rattle.track_engine.specs.Kept.{LineHolds, LogIsSafe}
 use Rattle.track_run.specs.Job.{log_of, log_of_input, log_of_test}
 use Rattle.log_fits.specs.Fitting.{LinesFit}
-use Rattle.log_fits.specs.Logs.{LogsAreRead, FirstPartsAreLogs, RunsHaveLogs}
+use Rattle.log_fits.specs.Logs.{MayFollowAs, LogsAreRead, FirstPartsAreLogs, RunsHaveLogs}
 use Rattle.log_fits.proofs.Jobs.{job_logs_fit}
 use Rattle.log_fits.proofs.Measured.{mesh_is}
 
 pub logs_are_read : LogsAreRead
 logs_are_read scale m lines log =
     let P : List LogLine → Type 0 = λ ls. lines_of_text scale (text_of_lines ls) ≡ Ok ls in
-    subst P (sym log.lines_are) (written_logs_are_read_lem scale log.rest log.range)
+    subst P (sym log.lines_are) (by_version log.version log.rest log.is_written log.range)
+  where
+    ReadBack : ℕ → List LogLine → Type 0
+    ReadBack version rest = lines_of_text scale (text_of_lines (First version ∷ rest)) ≡ Ok (First version ∷ rest)
+
+    by_version : (version : ℕ) (rest : List LogLine) → (version ≡ VERSION) ⊎ (version ≡ IDS_VERSION) → All (MayFollowAs scale version) rest → ReadBack version rest
+    by_version version rest (inl is) range = subst (λ v. ReadBack v rest) (sym is) (written_logs_are_read_lem scale rest (subst (λ v. All (MayFollowAs scale v) rest) is range))
+    by_version version rest (inr is) range = subst (λ v. ReadBack v rest) (sym is) (numbered_logs_are_read_lem scale rest (subst (λ v. All (MayFollowAs scale v) rest) is range))
 
 -- ---- first lines
 
@@ -63,9 +71,11 @@ first_fit s (line ∷ lines) (suc count) h = (h.0, first_fit (with_line s line) 
 pub first_parts_are_logs : FirstPartsAreLogs
 first_parts_are_logs scale m lines zero some log = absurd (omega (arith, some))
 first_parts_are_logs scale m lines (suc count) some log = record {
+  version = log.version;
+  is_written = log.is_written;
   rest = take count log.rest;
   lines_are = ap (take (suc count)) log.lines_are;
-  range = All-take (MayFollow scale) count log.rest log.range;
+  range = All-take (MayFollowAs scale log.version) count log.rest log.range;
   fits = first_fit (without_lines m) lines (suc count) log.fits;
   again = each_first LineIsAgain (at_mesh m) lines (suc count) log.again;
   safe = each_first LineHolds (at_mesh m) lines (suc count) log.safe;
@@ -105,6 +115,8 @@ runs_have_logs known scale mesh_name step_name to tracked before after track lis
     let lines : List LogLine = (log_of job answers).lines in
     let same : mesh_of_job job ≡ mesh_of_lists job.scale lists = mesh_is job lists directives clear in
     record {
+      version = VERSION;
+      is_written = inl refl;
       rest = (log_of_input job.scale answers (input_of job)).lines;
       lines_are = refl;
       range = job_in_range scale answers before.holds.files mesh_name step_name to.decimals job track.is_job;

@@ -9,7 +9,7 @@ use Rattle.proof_text.specs.Order.{proofs_of}
 use Rattle.proof_text.specs.Views.{proofs_view}
 use Rattle.proof_text.specs.declared.ProofAt.{ProofAt}
 use Rattle.log_text.specs.declared.LogLine.{LogLine}
-use Rattle.log_text.specs.declared.TheConstants.{COUNT_MAX, VERSION}
+use Rattle.log_text.specs.declared.TheConstants.{COUNT_MAX}
 use Rattle.log_text.specs.declared.LogLine.TheVariants.{First}
 use Rattle.log_read.specs.Reading.{log_of as lines_of_text}
 use Rattle.log_text.specs.Lines.{text_of_lines}
@@ -51,7 +51,7 @@ module _ (read : LogJob) (lists : Lists) (lines : List LogLine) (is : IsOfLog re
   log_read = logs_are_read read.scale m lines is.log
 
   has_lines : lines ≡ [] → ⊥
-  has_lines none = let first : First VERSION ∷ log.rest ≡ [] = sym log.lines_are ∙ none in absurd cc
+  has_lines none = let first : First log.version ∷ log.rest ≡ [] = sym log.lines_are ∙ none in absurd cc
 
   given : input_of read ≡ Ok (record { mesh = m; lines = lines })
   unfolding text

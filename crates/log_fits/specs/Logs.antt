@@ -1,19 +1,19 @@
 -- What is known of a log that was written, whoever wrote it, and of its first lines.
-use Rattle.std.specs.Prelude.{◌≡◌, ℕ, ◌<◌, List, ◌∷◌, take, Ok}
+use Rattle.std.specs.Prelude.{◌≡◌, ◌⊎◌, ℕ, ◌<◌, List, ◌∷◌, take, Ok, All}
 use Rattle.mesh_base.specs.declared.Scale.{Scale}
 use Rattle.mesh_base.specs.Mesh.{Mesh}
 use Rattle.obj_text.specs.Obj.{Lists}
 use Rattle.step_text.specs.declared.Placed.{Placed}
-use Rattle.log_text.specs.declared.TheConstants.{VERSION}
+use Rattle.log_text.specs.declared.TheConstants.{VERSION, IDS_VERSION}
 use Rattle.log_text.specs.declared.LogLine.{LogLine}
 use Rattle.log_text.specs.declared.LogLine.TheVariants.{First}
 use Rattle.log_text.specs.Lines.{text_of_lines}
+use Rattle.log_read.specs.Laws.{IsInRange, NamesOnly}
 use Rattle.log_read.specs.Reading.{log_of as lines_of_text}
 use Rattle.log_replay.specs.Again.{LinesAreAgain}
 use Rattle.log_replay.specs.Replay.{at_mesh}
 use Rattle.log_run.specs.States.{without_lines}
 use Rattle.outside_io.specs.World.{World}
-use Rattle.run_laws.specs.Lines.{AreInRange}
 use Rattle.track_input.specs.Job.{mesh_of_lists}
 use Rattle.track_engine.specs.Answered.{Known}
 use Rattle.track_engine.specs.Kept.{LogIsSafe}
@@ -24,13 +24,21 @@ use Rattle.track_run.specs.Headline.{TracksCommand}
 use Rattle.track_run.specs.Job.{log_of}
 use Rattle.log_fits.specs.Fitting.{LinesFit}
 
--- A log of a mesh, by a scale: behind the line of the version each line is in its range; each fits the lines
--- before it, can be done again by the log alone, and keeps its promise, so that every motion is
--- clear at each fraction and every line leaves a mesh that is sound, closed and clear.
+-- The line may stand behind a first line that names this version: it is in its range, and names no
+-- other version, nor tells which ids there are, unless this one does.
+abbrev pub MayFollowAs : Scale → ℕ → LogLine → Type 0
+MayFollowAs scale version l = IsInRange scale l × NamesOnly version l
+
+-- A log of a mesh, by a scale: behind a first line with one of the two versions that are written each
+-- line is in its range; each fits the lines before it, can be done again by the log alone, and keeps
+-- its promise, so that every motion is clear at each fraction and every line leaves a mesh that is
+-- sound, closed and clear.
 pub record IsLogOf (scale : Scale) (m : Mesh) (lines : List LogLine) : Type 0 where
+  pub version : ℕ
+  pub is_written : (version ≡ VERSION) ⊎ (version ≡ IDS_VERSION)
   pub rest : List LogLine
-  pub lines_are : lines ≡ First VERSION ∷ rest
-  pub range : AreInRange scale rest
+  pub lines_are : lines ≡ First version ∷ rest
+  pub range : All (MayFollowAs scale version) rest
   pub fits : LinesFit (without_lines m) lines
   pub again : LinesAreAgain (at_mesh m) lines
   pub safe : LogIsSafe (at_mesh m) lines

@@ -1,5 +1,5 @@
 //! Laws of the logs that runs write. Each is the contract of a function that does nothing.
-ghost use Rattle.log_fits.specs.Begun.{LogsCanBeBegun, CallersBeginLogs, LogsAreOfTheirFiles};
+ghost use Rattle.log_fits.specs.Begun.{LogsCanBeBegun, HeadsMakeTheMesh, CallersBeginLogs, LogsAreOfTheirFiles};
 ghost use Rattle.log_fits.specs.Closures.{ByClosures};
 ghost use Rattle.log_fits.specs.Fitting.{LogsOfMeshesFit, LogsOfJobsFit};
 ghost use Rattle.log_fits.specs.Histories.{CallersHaveLogs, CallersAreTold};
@@ -64,10 +64,11 @@ pub fn callers_have_logs()
 {}
 
 /// A caller's log may be begun at any time, at the mesh as it is, where the tracker goes on and no group is open: behind the first lines
-/// that are told then, and before the last, the lines of the calls from there on are a log of that mesh with no vertex solid. Where its ids
-/// are dense, that is the mesh which is read from its text.
+/// that are told then, and before the last, the lines of the calls from there on are a log of the mesh that is read from the text of that
+/// mesh. Of this the first lines make that mesh, with its ids, also where they are not dense, and its solid vertices.
 pub fn logs_can_be_begun()
     ensures logs { LogsCanBeBegun }
+    ensures heads { HeadsMakeTheMesh }
     ensures callers { CallersBeginLogs }
     ensures files { LogsAreOfTheirFiles }
 {}

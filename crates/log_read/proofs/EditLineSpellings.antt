@@ -283,7 +283,7 @@ block_back scale version ended words l h =
 pub new_ids_again : (new : NewIds) → AreNewIds new → new_ids_of true (new_ids_words new) ≡ Ok new
 unfolding new_ids_of next_of
 new_ids_again new r =
-    let many = at_least-length 2 (new_ids_words new) (omega (arith, length-map new.ids decimal, r.some)) in
+    let many = at_least-length 1 (new_ids_words new) (omega arith) in
     let next = (spelled_at-exact 1 (ID_MAX + 1) (lit< tt)).of_written new.next (map decimal new.ids) r.next in
     let small : new.next - 1 < 2 ^ 64 = omega (arith, r.next.1) in
     rw (many, next, ids_add-of_written (new.next - 1) small [] 1 new.ids r.ids) refl
@@ -300,14 +300,13 @@ made next ids = record { next = next; ids = ids }
 new_ids_read : (ended : Bool) (words : List (List ℕ)) (new : NewIds) → new_ids_of ended words ≡ Ok new → NewIdsRead ended words new
 unfolding new_ids_of next_of
 new_ids_read ended words new h =
-    let x = bound (at_least ended 2 words >>= λ (u : Unit {0}). spelled_at 1 (ID_MAX + 1) words) (λ (next : ℕ × List (List ℕ)). ids_add (next.0 - 1) [] 1 next.1 >>= λ ids. Ok (made next.0 ids)) new h in
-    let c = bound (at_least ended 2 words) (λ (u : Unit {0}). spelled_at 1 (ID_MAX + 1) words) x.value x.first in
-    let n = at_least-of_read ended 2 words c.value c.first in
+    let x = bound (at_least ended 1 words >>= λ (u : Unit {0}). spelled_at 1 (ID_MAX + 1) words) (λ (next : ℕ × List (List ℕ)). ids_add (next.0 - 1) [] 1 next.1 >>= λ ids. Ok (made next.0 ids)) new h in
+    let c = bound (at_least ended 1 words) (λ (u : Unit {0}). spelled_at 1 (ID_MAX + 1) words) x.value x.first in
+    let n = at_least-of_read ended 1 words c.value c.first in
     let s = (spelled_at-exact 1 (ID_MAX + 1) (lit< tt)).of_read words x.value.0 x.value.1 c.after in
     let y = bound (ids_add (x.value.0 - 1) [] 1 x.value.1) (λ (ids : List ℕ). Ok (made x.value.0 ids)) new x.after in
     let i = ids_add-of_read (x.value.0 - 1) (omega (arith, s.1.1)) [] 1 x.value.1 y.value y.first in
-    let some : 0 < length i.more = omega (arith, ap length s.0, ap length i.same, length-map i.more decimal, n.1) in
-    let here : NewIdsRead ended words (made x.value.0 i.more) = record { has_end = n.0; same = ap (λ (t : List (List ℕ)). decimal x.value.0 ∷ t) (sym i.same) ∙ sym s.0; fits = record { next = s.1; some = some; ids = i.rising } } in
+    let here : NewIdsRead ended words (made x.value.0 i.more) = record { has_end = n.0; same = ap (λ (t : List (List ℕ)). decimal x.value.0 ∷ t) (sym i.same) ∙ sym s.0; fits = record { next = s.1; ids = i.rising } } in
     subst (NewIdsRead ended words) (ap (made x.value.0) (sym i.all) ∙ ok_same (made x.value.0 y.value) new y.after) here
 
 pub new_ids_back : (scale : Scale) (version : ℕ) (name : List ℕ) (make : NewIds → LogLine) → ((new : NewIds) → line_words (make new) ≡ name ∷ new_ids_words new) → ((new : NewIds) → AreNewIds new → IsInRange scale (make new)) → ((new : NewIds) → IsOfVersion version (make new))

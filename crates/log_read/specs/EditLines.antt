@@ -137,10 +137,10 @@ block_of ended words = do
   ids ← ids_add ID_MAX [] 1 words
   Ok (line.Block ids)
 
--- the next id, where an id or more stands after it
+-- the next id, where none or more stand after it
 unfoldable pub next_of : Bool → Reader ℕ
 next_of ended words = do
-  counted ← at_least ended 2 words
+  counted ← at_least ended 1 words
   spelled_at 1 (ID_MAX + 1) words
 
 -- the next id, and the ids that are taken, rising and below it

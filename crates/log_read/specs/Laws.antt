@@ -104,10 +104,9 @@ AreRisingTo most low (v ∷ vs) = IsFrom low most v × AreRisingTo most (v + 1) 
 abbrev pub AreRising : ℕ → List ℕ → Type 0
 AreRising low ids = AreRisingTo ID_MAX low ids
 
--- one id or more, below the next one, which is at most one above the greatest
+-- ids below the next one, which is at most one above the greatest
 pub record AreNewIds (new : NewIds) : Type 0 where
   pub next : IsFrom 1 (ID_MAX + 1) new.next
-  pub some : 0 < length new.ids
   pub ids : AreRisingTo (new.next - 1) 1 new.ids
 
 -- the length that a pass goes by

@@ -66,14 +66,14 @@ fn ids_up_to(
     Ok(ids)
 }
 
-// The next id, where an id or more stands after it.
+// The next id, where none or more stand after it.
 #[tactic(auto, unfolding(crate::specs::EditLines::next_of))]
 fn next_id(ended: bool, words: &mut Parts<'_>) -> Result<u32, TextWhy>
     ensures value { TakesParts words.old words.new result (spec.next_of ended) }
     ensures above { IfOk result (λ next. 1 ≤ next) }
     ensures below { IfOk result (λ next. next ≤ (ID_MAX + 1)) }
 {
-    at_least(ended, 2, *words)?;
+    at_least(ended, 1, *words)?;
     count_at(words, 1, ID_MAX + 1)
 }
 

@@ -1,5 +1,5 @@
 //! Volume, pieces, Euler number and genus of meshes.
-use crate::meshes::{JOINED, PARTED, RING, TETRAHEDRON, lists_of};
+use crate::meshes::{BARE, JOINED, PARTED, RING, TETRAHEDRON, lists_of};
 use crate::same::assert_same;
 use grid_base::NoMemory;
 use line_text::ReadFault;
@@ -14,9 +14,6 @@ use std::test::Fail;
 // A tetrahedron and another beside it.
 const BOTH: &[u8] = b"v 0 0 0\nv 4 0 0\nv 0 4 0\nv 0 0 4\nv 50 0 0\nv 54 0 0\nv 50 4 0\nv 50 0 4\n\
 f 1 3 2\nf 1 2 4\nf 2 3 4\nf 1 4 3\nf 5 7 6\nf 5 6 8\nf 6 7 8\nf 5 8 7\n";
-
-// Points without a face.
-const BARE: &[u8] = b"v 0 0 0\nv 4 0 0\nv 0 4 0\nv 0 0 4\n";
 
 // What there is to measure of a mesh: six times the volume, pieces, Euler number and genus.
 type Measures = (i128, u32, i64, Option<u32>);

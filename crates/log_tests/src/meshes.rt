@@ -9,6 +9,9 @@ use std::process::Abort;
 pub(crate) const TETRAHEDRON: &[u8] =
     b"v 0 0 0\nv 4 0 0\nv 0 4 0\nv 0 0 4\nf 1 3 2\nf 1 2 4\nf 2 3 4\nf 1 4 3\n";
 
+// Points without a face.
+pub(crate) const BARE: &[u8] = b"v 0 0 0\nv 4 0 0\nv 0 4 0\nv 0 0 4\n";
+
 // One whose edge 1 2 has its midpoint between two points of the grid.
 pub(crate) const LONG: &[u8] =
     b"v 0 0 0\nv 5 0 0\nv 2 2 0\nv 2 0 2\nf 1 3 2\nf 1 2 4\nf 2 3 4\nf 1 4 3\n";

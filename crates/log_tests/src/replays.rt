@@ -1,17 +1,18 @@
 //! Logs that are replayed line by line.
 ghost use Rattle.std.specs.Prelude.{◌≡◌, false, true, Ok, IfOk, IsOk};
 ghost use Rattle.mesh_base.specs.Sides.{IsClosed};
+ghost use Rattle.mesh_base.specs.Valid.{IsValidSurface};
 ghost use Rattle.log_run.specs.Fits.{MayBeTried};
-ghost use Rattle.log_tests.specs.Closed.{AreClosed};
+ghost use Rattle.log_tests.specs.Closed.{AreClosed, MayBeNamed};
 
-use crate::meshes::{BOXES, JOINED, LONG, TETRAHEDRON, lists_of};
+use crate::meshes::{BARE, BOXES, JOINED, LONG, TETRAHEDRON, lists_of};
 use crate::same::assert_same;
 use grid_base::NoMemory;
 use line_text::ReadFault;
 use log_read::read_log;
 use log_run::LogRun;
 use log_text::{Log, LogLine};
-use mesh_base::Scale;
+use mesh_base::{Scale, Surface};
 use mesh_journal::JournalMesh;
 use mesh_shape::shape;
 use pair_scan::first_meeting;
@@ -36,7 +37,17 @@ fn lines_of(alloc: Global, text: &[u8], rt: &impl Abort) -> Result<Log, ReadFaul
     read_log(alloc, Scale::Standard, text)
 }
 
-// That the mesh is clear, where the line is that of an edit.
+// That no edge of a closed mesh meets a face.
+fn assert_clear<S: Surface>(alloc: Global, mesh: &S, rt: &impl Abort) -> Result<(), NoMemory>
+    requires { IsClosed (S.mesh mesh.now) }
+    ensures { IsOk result → IsValidSurface (S.mesh mesh.now) }
+{
+    let found = first_meeting(alloc, mesh)?;
+    assert!(rt; found.is_none());
+    Ok(())
+}
+
+// That the mesh is clear, where the line is that of an edit or of new ids.
 fn may_be_tried(
     alloc: Global,
     run: &LogRun,
@@ -44,14 +55,13 @@ fn may_be_tried(
     rt: &impl Abort,
 ) -> Result<(), NoMemory>
     requires { IsClosed run.now.replay.mesh }
-    ensures { IsOk result → MayBeTried run.now.replay.mesh line.now }
+    ensures tried { IsOk result → MayBeTried run.now.replay.mesh line.now }
+    ensures named { IsOk result → MayBeNamed run.now.replay.mesh line.now }
 {
     match line {
-        LogLine::Did(_) => {
-            let found = first_meeting(alloc, run.mesh())?;
-            assert!(rt; found.is_none());
-            Ok(())
-        }
+        LogLine::Did(_) => assert_clear(alloc, run.mesh(), rt),
+        LogLine::Vertices(_) => assert_clear(alloc, run.mesh(), rt),
+        LogLine::Faces(_) => assert_clear(alloc, run.mesh(), rt),
         _ => Ok(()),
     }
 }
@@ -114,7 +124,7 @@ pass fit\nmove 4 1 2 3\nno flip 1 2 edge\nmove 3 1 2 3\n\
 refused missing mesh\nend\nmoved zones 2\nmesh 9 4 4\n";
 
 // Meshes and logs, with the first line of each that does not fit; 0, where all fit.
-const MISFITS: [(&[u8], &[u8], usize); 31] = [
+const MISFITS: [(&[u8], &[u8], usize); 51] = [
     // Where lines stand.
     (TETRAHEDRON, b"mesh 0 4 4\n", 1),
     (TETRAHEDRON, b"topo log 2\ntopo log 2\n", 2),
@@ -169,6 +179,79 @@ const MISFITS: [(&[u8], &[u8], usize); 31] = [
     (TETRAHEDRON, OUTER_BACK, 0),
     (TETRAHEDRON, INNER_BACK, 0),
     (TETRAHEDRON, LOOSE, 0),
+    // Ids that vertices and faces take.
+    (
+        TETRAHEDRON,
+        b"topo log 3\nvertices 9 2 3 5 8\nfaces 21 10 11 12 20\nmesh 0 4 4\nend\n",
+        0,
+    ),
+    (TETRAHEDRON, b"topo log 3\nvertices 9 2 3 5\n", 2),
+    (TETRAHEDRON, b"topo log 3\nvertices 9 1 2 3 5 8\n", 2),
+    (TETRAHEDRON, b"topo log 3\nfaces 9\n", 2),
+    (TETRAHEDRON, b"topo log 3\nfaces 9 1 2 3 4 5\n", 2),
+    (
+        BARE,
+        b"topo log 3\nvertices 5 1 2 3 4\nfaces 9\nmesh 0 4 0\n",
+        0,
+    ),
+    (BARE, b"topo log 3\nfaces 2 1\n", 2),
+    (TETRAHEDRON, b"topo log 3\nstep 1\nvertices 5 1 2 3 4\n", 3),
+    (
+        TETRAHEDRON,
+        b"topo log 3\nstep 1\nmoved zero\nfaces 5 1 2 3 4\n",
+        0,
+    ),
+    (TETRAHEDRON, b"topo log 3\ngroup\nfaces 5 1 2 3 4\n", 3),
+    (
+        TETRAHEDRON,
+        b"topo log 3\ngroup\nclose kept\nvertices 5 1 2 3 4\n",
+        0,
+    ),
+    (
+        TETRAHEDRON,
+        b"topo log 3\nvertices 30 10 11 12 20\nsplit 10 11 30 2 0 0\nvertices 6 1 2 3 4 5\n",
+        0,
+    ),
+    (
+        TETRAHEDRON,
+        b"topo log 3\nvertices 30 10 11 12 20\nsplit 1 2 30 2 0 0\n",
+        3,
+    ),
+    (
+        TETRAHEDRON,
+        b"topo log 3\nvertices 30 10 11 12 20\nsplit 10 11 5 2 0 0\n",
+        3,
+    ),
+    (
+        TETRAHEDRON,
+        b"topo log 3\nvertices 30 10 11 12 20\nvertices 5 1 2 3 4\nsplit 1 2 5 2 0 0\n",
+        0,
+    ),
+    (
+        TETRAHEDRON,
+        b"topo log 3\nfaces 2147483649 1 2 3 4\nsplit 1 2 5 2 0 0\n",
+        3,
+    ),
+    (
+        TETRAHEDRON,
+        b"topo log 3\nvertices 30 10 11 12 20\nsolid 20\nstep 1\nmove 10 1 0 0\nmove 20 1 0 0\n",
+        6,
+    ),
+    (
+        TETRAHEDRON,
+        b"topo log 3\nvertices 30 10 11 12 20\nsolid 4\n",
+        3,
+    ),
+    (
+        TETRAHEDRON,
+        b"topo log 3\nsolid 2\nvertices 30 1 3 4 20\nstep 1\nmove 1 0 0 0\nmove 4 0 0 0\nmove 3 1 0 0\n",
+        7,
+    ),
+    (
+        TETRAHEDRON,
+        b"topo log 3\nsplit 1 2 5 2 0 0\ncollapse 1 5 0 0 0\nvertices 5 1 2 3 4\n",
+        0,
+    ),
     // Other meshes.
     (LONG, SPLIT, 0),
     (LONG, b"topo log 2\nsplit 1 2 5 3 0 0\n", 2),

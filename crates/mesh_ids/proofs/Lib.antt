@@ -1,3 +1,4 @@
 pub mod Turns
 pub mod Renaming
 pub mod Taken
+pub mod TakenBack

@@ -72,14 +72,20 @@ const LATEST: &[u8] = b"topo log 2\nsolid 2147483648\ngroup\nclose kept\nclose u
 no collapse 1 2 solid\nno pinch 3 solid\nrefused steps 9 nesting\nrefused use 2 solid 1\n\
 refused long log 67108865\nrefused long proof 0\nrefused missing log\nrefused missing proof\n";
 
+// Ids that vertices and faces take, the greatest and none among them, and lines of the version before.
+const TAKEN: &[u8] =
+    b"topo log 3\nvertices 21 2 3 5 20\nfaces 4 1 2 3\nvertices 2147483649 1 2147483648\n\
+faces 2147483649 2147483648\nvertices 1\nfaces 1\nvertices 2147483649\nfaces 7\ntopo log 3\nsolid 20\ngroup\n\
+close undone\nclose kept\nno pinch 3 solid\nrefused steps 9 nesting\nrefused use 2 solid 1\nmoved whole\nend\n";
+
 const EDITED: &[u8] = b"topo log 1\nblock 1 2147483648\npass split 1073741824\n\
 split 1 2147483648 5 -268435456 268435456 0\nno split 1 2 hit 3 4 9\npass flip\nflip 1 2\n\
 no flip 1 2 edge\npass collapse 0\ncollapse 2147483647 2147483648 0 0 0\nno collapse 1 2 full\n\
 pass zip 4\nzip 1 2 1 2 3\nno zip 1 2 9 10 shared\npass pinch\n\
 pinch 3 1 0 0 8 -1 0 0 9 0 0 -7\nno pinch 1 hit 1 2 1\nend\n";
 
-const TEXTS: [&[u8]; 12] = [
-    RUN, REFUSED, LISTS, WHOLE, HALVED, GREATEST, EDITED, SOLID, UNDONE, KEPT, LATEST, b"",
+const TEXTS: [&[u8]; 13] = [
+    RUN, REFUSED, LISTS, WHOLE, HALVED, GREATEST, EDITED, SOLID, UNDONE, KEPT, LATEST, TAKEN, b"",
 ];
 
 fn read_and_printed(
@@ -112,7 +118,8 @@ fn logs_are_read_and_printed_again(rt: HostRuntime) -> Result<(), Fail> {
 const NO_LOG_UNKNOWN: &[u8] =
     b"\n|# end\n|end\r\n| end\n|solid 3\n|topo lag\n|moved away\n|refused long log 9\n\
 |refused long proof 9\n|refused missing log\n|refused missing proof\n|refused log 3 number\n\
-|refused shape round\n|ended|pass jump 3\n|no jump 1 2 edge\n|solid 3|group\n|close kept\n|close";
+|refused shape round\n|ended|pass jump 3\n|no jump 1 2 edge\n|solid 3|group\n|close kept\n|close\
+|vertices 2 1\n|faces 2 1\n|vertices";
 
 const NO_LOG_SHORT: &[u8] =
     b"end|end now|topo\n|topo log\n|moved\n|hit 2 1\n|refused use x vertex\n\
@@ -128,7 +135,7 @@ const NO_LOG_LONG: &[u8] =
 
 const NO_LOG_NUMBER: &[u8] =
     b"refused use 3 wrong 4\n|refused mesh 3 wrong\n|refused shape corner 1 4\n\
-|refused long mesh 18446744073709551616\n|refused use 0 field\n|topo log 3\n|topo log 02\n|step 01\n\
+|refused long mesh 18446744073709551616\n|refused use 0 field\n|topo log 4\n|topo log 03\n|topo log 02\n|step 01\n\
 |step 1\r\n|step +1\n|hit 2 1 1\n|move 1 -0 0 0\n|moved impulse 101\n|pass zip 1073741825\n\
 |pass collapse -1\n|split 2 1 5 0 0 0\n|split 1 2 0 0 0 0\n|split 1 2 5 0 268435457 0\n\
 |flip 1 2147483649\n|flip 2 2\n|collapse 0 2 0 0 0\n|collapse 1 2 00 0 0\n|zip 1 2 3 4 4\n\
@@ -142,7 +149,7 @@ const NO_LOG_NUMBER: &[u8] =
 const NO_LINE_UNKNOWN: &[u8] =
     b"\n|close now\n|close \n|closed kept\n|groups\n|group1\n|solids 3\n|topo lag\n|topo proof 1\n\
 |refused long logs 9\n|refused missing proofs\n|refused log 3 number\n|refused proof 3 order\n\
-|refused replay 3\n|refused motion 4 nomotion\n";
+|refused replay 3\n|refused motion 4 nomotion\n|vertices 2 1\n|faces 2 1\n|vertices 1\n|faces\n";
 
 const NO_LINE_SHORT: &[u8] =
     b"solid\n|solid 1|group|group 1|close\n|close|close kept|close undone|no pinch 1 solid\
@@ -157,7 +164,20 @@ const NO_LINE_NUMBER: &[u8] =
     b"solid 0\n|solid 01\n|solid 2147483649\n|solid all\n|no split 2 1 solid\n\
 |no pinch 1 Solid\n|no pinch 1 solidly 1\n|refused use 3 solid 0\n|refused use 0 solid 1\n\
 |refused use 3 solids 1 2\n|refused steps 3 nested\n|refused steps 0 nesting\n|refused mesh 3 nesting\n\
-|refused steps 3 order\n|refused mesh 3 order\n|refused long log 01\n|topo log 1\n|topo log 3\n";
+|refused steps 3 order\n|refused mesh 3 order\n|refused long log 01\n|topo log 1\n|topo log 3\n|topo log 4\n";
+
+// Second lines, with `|` between them, by the reason why they are no line of the version that tells ids.
+const NO_IDS_UNKNOWN: &[u8] =
+    b"vertex 2 1\n|face 2 1\n|vertices2 1\n|Faces 2 1\n|edges 2 1\n|ids 2 1\n";
+
+const NO_IDS_SHORT: &[u8] =
+    b"vertices\n|faces\n|vertices|vertices 1|vertices x|faces 5 1|faces 5 1 2 3 4|topo log 3";
+
+const NO_IDS_NUMBER: &[u8] =
+    b"vertices x\n|vertices 0\n|faces 0\n|vertices 0 1\n|faces 2147483650\n|vertices 2147483650 1\n\
+|vertices 05 1\n|vertices 3 x\n|vertices 3 0\n|faces 3 0 1\n|vertices 3 1 1\n|faces 3 2 1\n|vertices 3 3\n\
+|faces 3 1 3\n|faces 3 1 4\n|vertices 1 1\n|faces 5 01\n|vertices 5 1 \n|faces 5 1  2\n|vertices \n|faces 5 \n\
+|vertices 5 1 2\r\n|vertices 2147483649 2147483649\n|topo log 1\n|topo log 2\n|topo log 4\n";
 
 // Texts of one line, with `|` between them, with a number that is too great for a scale by one.
 const ABOVE_STANDARD: &[u8] = b"mesh 0 65537 4\n|mesh 0 4 131073\n|moved zones 65536\n";
@@ -201,7 +221,7 @@ fn assert_faults(
 // What stands in front of lines, the number of their line, the reason, and the lines.
 type Row<'a> = (Scale, &'a [u8], u32, TextWhy, &'a [u8]);
 
-const FAULTS: [Row; 11] = [
+const FAULTS: [Row; 14] = [
     (Scale::Standard, b"", 1, TextWhy::Unknown, NO_LOG_UNKNOWN),
     (Scale::Standard, b"", 1, TextWhy::Short, NO_LOG_SHORT),
     (Scale::Standard, b"", 1, TextWhy::Long, NO_LOG_LONG),
@@ -233,6 +253,27 @@ const FAULTS: [Row; 11] = [
         2,
         TextWhy::Number,
         NO_LINE_NUMBER,
+    ),
+    (
+        Scale::Standard,
+        b"topo log 3\n",
+        2,
+        TextWhy::Unknown,
+        NO_IDS_UNKNOWN,
+    ),
+    (
+        Scale::Standard,
+        b"topo log 3\n",
+        2,
+        TextWhy::Short,
+        NO_IDS_SHORT,
+    ),
+    (
+        Scale::Standard,
+        b"topo log 3\n",
+        2,
+        TextWhy::Number,
+        NO_IDS_NUMBER,
     ),
     (Scale::Standard, b"", 1, TextWhy::Number, ABOVE_STANDARD),
     (Scale::Large, b"", 1, TextWhy::Number, ABOVE_LARGE),

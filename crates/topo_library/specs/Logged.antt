@@ -1,11 +1,11 @@
 -- What the codes say of the calls that begin a log and end it.
-use Rattle.std.specs.Prelude.{◌≡◌, ◌≢◌, ◌↔◌, ◌⊎◌, ℕ, false, [], Option, Some, None, Ok, Err, IsTrue}
+use Rattle.std.specs.Prelude.{◌≡◌, ◌≢◌, ◌↔◌, ◌⊎◌, ℕ, [], Option, Some, None, Ok, Err, IsTrue}
 use Rattle.log_write.specs.Kept.{text_where}
 use Rattle.outside_io.specs.declared.stop.Stop.TheVariants.{NoMemory}
 use Rattle.track_engine.specs.Invariant.{IsRunInvariant}
 use Rattle.track_engine.specs.Parts.{Writes}
 use Rattle.track_engine.specs.State.{is_open}
-use Rattle.track_held.specs.Heads.{has_dense_ids, begin_effect, end_effect}
+use Rattle.track_held.specs.Heads.{begin_effect, end_effect}
 use Rattle.track_held.specs.Held.{goes_on}
 use Rattle.topo_library.specs.Codes.{tracker_state, tracker_log, keeps, GoesOn}
 use Rattle.topo_library.specs.declared.tracker.Tracker.{Tracker}
@@ -14,12 +14,6 @@ use Rattle.topo_library.specs.declared.tracker.Tracker.{Tracker}
 abbrev pub IsGrouped : Tracker → Type 0
 IsGrouped t = GoesOn t × IsTrue (is_open (tracker_state t).groups)
 
--- it goes on, no group is open, and an id below the next one is left out, of vertices or of faces
-pub record IsSparse (t : Tracker) : Type 0 where
-  pub goes_on : GoesOn t
-  pub closed : is_open (tracker_state t).groups ≡ false
-  pub gap : has_dense_ids (tracker_state t).mesh ≡ false
-
 -- What a code says of a call that begins a log with the tracker s, which then is t.
 pub record HasBegunLog (s t : Tracker) (code : ℕ) : Type 0 where
   -- 0: what was told before is forgotten, and the first lines of a log of the mesh are told, where
@@ -27,17 +21,15 @@ pub record HasBegunLog (s t : Tracker) (code : ℕ) : Type 0 where
   pub done : code ≡ 0 →
       Writes (begin_effect (tracker_state s)) (tracker_state t)
       (text_where (keeps s) []) (tracker_log t) (Ok None)
-  -- 5 exactly where the tracker was stopped, 7 exactly where it goes on and a group is open, and 8
-  -- exactly where it goes on, none is, and the ids are not dense
+  -- 5 exactly where the tracker was stopped, and 7 exactly where it goes on and a group is open
   pub stopped : code ≡ 5 ↔ ¬ GoesOn s
   pub grouped : code ≡ 7 ↔ IsGrouped s
-  pub sparse : code ≡ 8 ↔ IsSparse s
   -- but at 0 nothing is changed
   pub left : code ≢ 0 → t ≡ s
   pub goes_on : goes_on t.held ≡ goes_on s.held
   pub kept : GoesOn t → IsRunInvariant (tracker_state t)
   -- 1 is want of memory, and no other code comes
-  pub among : (code ≡ 0) ⊎ (code ≡ 1) ⊎ (code ≡ 5) ⊎ (code ≡ 7) ⊎ (code ≡ 8)
+  pub among : (code ≡ 0) ⊎ (code ≡ 1) ⊎ (code ≡ 5) ⊎ (code ≡ 7)
 
 -- the same of a holder: 4 where it holds no tracker
 abbrev pub HolderHasBegunLog : Option Tracker → Option Tracker → ℕ → Type 0

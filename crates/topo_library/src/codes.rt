@@ -16,5 +16,3 @@ pub(crate) const STOPPED: u32 = 5;
 pub(crate) const SPENT: u32 = 6;
 /// A group is open.
 pub(crate) const GROUPED: u32 = 7;
-/// The ids are not dense.
-pub(crate) const SPARSE: u32 = 8;

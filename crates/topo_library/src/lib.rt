@@ -80,7 +80,7 @@ use track_held::{
 };
 
 /// The version of these calls. It rises where what one of them takes or answers changes, and where one is gone.
-pub const CALLS: u32 = 3;
+pub const CALLS: u32 = 4;
 
 /// Makes a tracker of the surface of these points and faces, whose corners number the points from 1, or refuses them for their first fault.
 /// What `out` held is freed first; where no tracker is made, it holds none.
@@ -570,7 +570,8 @@ pub extern "C" fn topo_renumber(alloc: Global, topo: &mut Topo) -> u32
 }
 
 /// Begins a log at the mesh as it is: what was told is forgotten, and the first lines are told: that of the version, that of the mesh, which gets
-/// the number 0, and one for each solid vertex. Refused where a group is open, and where an id below the next one is left out, of vertices or of faces.
+/// the number 0, those of the ids that there are, where one below the next is left out, of vertices or of faces, and one for each solid vertex.
+/// Refused where a group is open.
 #[unsafe(no_mangle)]
 pub extern "C" fn topo_begin_log(alloc: Global, topo: &mut Topo) -> u32
     ensures { HandleHasBegunLog topo result }
@@ -631,7 +632,7 @@ pub extern "C" fn topo_calls() -> u32
     CALLS
 }
 
-/// The version of the log that a tracker writes.
+/// The version of the log that a tracker writes where no id is left out.
 #[unsafe(no_mangle)]
 pub extern "C" fn topo_version() -> u32
     ensures { result ≡ VERSION }

@@ -4,7 +4,7 @@ ghost use Rattle.mesh_sizing.specs.Sizes.{IsBand};
 ghost use Rattle.step_choose.specs.Settings.{AreWithinLimits};
 ghost use Rattle.step_text.specs.Ranges.{IsInRange};
 
-use crate::codes::{DONE, GROUPED, NO_MEMORY, REFUSED, SPARSE, SPENT, STOPPED};
+use crate::codes::{DONE, GROUPED, NO_MEMORY, REFUSED, SPENT, STOPPED};
 use crate::fault::{TopoFault, use_place};
 use crate::results::{TopoEdits, TopoWay, closing_number, edits_told, undone_number, way_told};
 use edit_base::{Asked, PassKind};
@@ -248,9 +248,6 @@ impl Tracker {
         }
         if open {
             return GROUPED;
-        }
-        if !self.held.has_dense_ids() {
-            return SPARSE;
         }
         match self.held.begin_log(alloc) {
             Ok(()) => DONE,

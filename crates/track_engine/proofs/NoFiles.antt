@@ -9,7 +9,7 @@ use Rattle.step_choose.specs.Choice.{Way}
 use Rattle.mesh_base.specs.declared.UseWhy.{UseWhy}
 use Rattle.log_text.specs.Lines.{text_of_lines}
 use Rattle.log_text.specs.declared.LogLine.{LogLine}
-use Rattle.log_text.specs.declared.LogLine.TheVariants.{First, Step, Solid, Hit, Block, Move, Moved, Pass, PassFit, Did, No, Mesh as MeshLine, Group as GroupLine, Close, End, Refused as RefusedLine}
+use Rattle.log_text.specs.declared.LogLine.TheVariants.{First, Step, Vertices, Faces, Solid, Hit, Block, Move, Moved, Pass, PassFit, Did, No, Mesh as MeshLine, Group as GroupLine, Close, End, Refused as RefusedLine}
 use Rattle.log_replay.specs.Replay.{Replay, after, replayed}
 use Rattle.step_text.specs.declared.Directive.TheVariants as directive
 use Rattle.outside_io.specs.Desk.{Files}
@@ -35,6 +35,8 @@ files_of-none to [] from none = refl
 files_of-none to (MeshLine k v f ∷ lines) from none = absurd none
 files_of-none to (First version ∷ lines) from none = files_of-none to lines (replayed from (First version)) none
 files_of-none to (Step k ∷ lines) from none = files_of-none to lines (replayed from (Step k)) none
+files_of-none to (Vertices new ∷ lines) from none = files_of-none to lines (replayed from (Vertices new)) none
+files_of-none to (Faces new ∷ lines) from none = files_of-none to lines (replayed from (Faces new)) none
 files_of-none to (Solid v ∷ lines) from none = files_of-none to lines (replayed from (Solid v)) none
 files_of-none to (GroupLine ∷ lines) from none = files_of-none to lines (replayed from GroupLine) none
 files_of-none to (Close kept ∷ lines) from none = files_of-none to lines (replayed from (Close kept)) none
@@ -54,6 +56,8 @@ front_none [] ys none = tt
 front_none (MeshLine k v f ∷ xs) ys none = absurd none
 front_none (First version ∷ xs) ys none = front_none xs ys none
 front_none (Step k ∷ xs) ys none = front_none xs ys none
+front_none (Vertices new ∷ xs) ys none = front_none xs ys none
+front_none (Faces new ∷ xs) ys none = front_none xs ys none
 front_none (Solid v ∷ xs) ys none = front_none xs ys none
 front_none (GroupLine ∷ xs) ys none = front_none xs ys none
 front_none (Close kept ∷ xs) ys none = front_none xs ys none

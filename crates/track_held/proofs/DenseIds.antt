@@ -23,12 +23,12 @@ use Rattle.obj_text.specs.Laws.{renumbered}
 use Rattle.obj_text.specs.Written.{rank, ranks, points_in_order, faces_by_rank}
 use Rattle.obj_text.proofs.RanksInOrder.{keeps_order_lem}
 use Rattle.mesh_rows.specs.Making.{with_solids}
-use Rattle.track_held.specs.Heads.{unmarked, has_dense_ids, MeshesAreMadeDense, DenseMeshesAreRead}
+use Rattle.track_held.specs.Heads.{unmarked, as_read, has_dense_ids, MeshesAreMadeDense, DenseMeshesAreRead}
 
 -- ---- rising ids of which none is left out
 
 module _ {X : Type 0} where
-  above : (k : ℕ) (es : List (ℕ × X)) → T (below_all nat_cmp k es) → AllByRecursion (λ e. k + 1 ≤ e.0) es
+  pub above : (k : ℕ) (es : List (ℕ × X)) → T (below_all nat_cmp k es) → AllByRecursion (λ e. k + 1 ≤ e.0) es
   above k [] h = tt
   above k (e ∷ es) h =
       let parts = both_of _ _ h in
@@ -61,7 +61,7 @@ module _ {X : Type 0} where
       λ i. (same i, e.1) ∷ rest i
 
   -- each entry of a map is found
-  each_live : (entries : FinMap nat_cmp X) → AllByRecursion (λ e. finite.get entries e.0 ≡ Some e.1) (finite.entries entries)
+  pub each_live : (entries : FinMap nat_cmp X) → AllByRecursion (λ e. finite.get entries e.0 ≡ Some e.1) (finite.entries entries)
   each_live entries = all_weaker (λ (e : ℕ × X). find nat_cmp e.0 (finite.entries entries) ≡ Some e.1) (λ (e : ℕ × X). finite.get entries e.0 ≡ Some e.1) (finite.entries entries)
       (λ e found. get-entries entries e.0 ∙ found) (each_found (finite.entries entries) (entries_sorted entries))
 
@@ -123,14 +123,17 @@ module _ (m : Mesh) (sound : IsSound m) (is_dense : has_dense_ids m ≡ true) wh
   faces_again : (renumbered Large m).faces ≡ m.faces
   faces_again = made_again m.faces (map corners_of (faces_by_rank m)) (corners_along (finite.entries m.faces) (each_live m.faces)) faces_counted
 
-  read_again : m.limits ≡ limits_of Large → renumbered Large m ≡ unmarked m
-  read_again limits =
+  read_within : as_read m ≡ unmarked m
+  read_within =
       let vertices : length (points_in_order m) + 1 ≡ m.next_vertex = ap (λ n. n + 1) (length-map (finite.entries m.points) (λ e. e.1) ∙ sym (len-entries m.points)) ∙ sym next_vertex in
       let faces : length (faces_by_rank m) + 1 ≡ m.next_face = ap (λ n. n + 1) (length-map (finite.entries m.faces) (λ e. ranks m e.1) ∙ sym (len-entries m.faces)) ∙ sym next_face in
-      λ i. record { points = points_again i; faces = faces_again i; solid = finite.empty; next_vertex = vertices i; next_face = faces i; limits = sym limits i }
+      λ i. record { points = points_again i; faces = faces_again i; solid = finite.empty; next_vertex = vertices i; next_face = faces i; limits = m.limits }
+
+pub dense_as_read : (m : Mesh) → IsSound m → has_dense_ids m ≡ true → as_read m ≡ unmarked m
+dense_as_read m sound is_dense = read_within m sound is_dense
 
 pub dense_meshes_are_read : DenseMeshesAreRead
-dense_meshes_are_read m sound limits is_dense = read_again m sound is_dense limits
+dense_meshes_are_read m sound limits is_dense = (λ i. record (renumbered Large m) { limits = sym limits i }) ∙ read_within m sound is_dense
 
 -- ---- a mesh that is made
 

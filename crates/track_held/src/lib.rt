@@ -15,6 +15,7 @@ mod given;
 mod given_edits;
 mod group_end;
 mod held;
+mod id_lines;
 mod log_head;
 mod new_tracker;
 mod numbered_tracker;

@@ -8,12 +8,13 @@ ghost use Rattle.track_engine.specs.Answers.{Nothing};
 ghost use Rattle.track_engine.specs.Effects.{effect_of, mesh_line};
 ghost use Rattle.track_engine.specs.Invariant.{HasRoom};
 ghost use Rattle.track_engine.specs.Parts.{Writes};
-ghost use Rattle.track_held.specs.Heads.{has_dense_ids, solid_lines, head_lines, begin_effect, end_effect, MeshesAreMadeDense, DenseMeshesAreRead};
+ghost use Rattle.track_held.specs.Heads.{solid_lines, head_lines, begin_effect, end_effect, MeshesAreMadeDense, DenseMeshesAreRead};
 
 use crate::held::Held;
+use crate::id_lines::{head_version, tell_ids};
 use crate::queries::solid_vertices;
 use grid_base::NoMemory;
-use log_text::{LogLine, VERSION};
+use log_text::LogLine;
 use log_write::{KeptLines, Listener};
 use mesh_base::{Surface, UseWhy, VertexId};
 use outside_io::Stop;
@@ -67,8 +68,14 @@ fn tell_head<S: Surface, O: Listener>(alloc: Global, mesh: &S, outside: &mut O) 
         (O.around outside.old) (O.around outside.new) result) }
 {
     let solids = solid_vertices(alloc, mesh)?;
-    outside.tell(alloc, &LogLine::First { version: VERSION })?;
+    outside.tell(
+        alloc,
+        &LogLine::First {
+            version: head_version(mesh),
+        },
+    )?;
     tell_mesh(alloc, mesh, 0, outside)?;
+    tell_ids(alloc, mesh, outside)?;
     tell_solids(alloc, solids.as_slice(), outside)
 }
 
@@ -86,15 +93,6 @@ impl<S: Surface> Held<S> {
     ghost use Rattle.track_held.specs.Held.{engine_in, held_state, keeps_lines, log_in, goes_on};
     ghost use Rattle.track_held.specs.Writing.{WritesEffect};
 
-    /// Whether the ids of vertices and of faces run from 1 on, up to the next one, with none left out (`dense_ids_are_those_of_a_file`).
-    pub fn has_dense_ids(&self) -> bool
-        ensures { result ≡ has_dense_ids (held_state self.now).mesh }
-    {
-        let mesh = &self.engine.mesh;
-        u64::from(mesh.next_vertex()) == u64::from(mesh.vertices()) + 1
-            && u64::from(mesh.next_face()) == u64::from(mesh.faces()) + 1
-    }
-
     /// The number that the next mesh gets that is saved.
     pub fn saved(&self) -> u32
         ensures { result ≡ (held_state self.now).saved }
@@ -103,7 +101,8 @@ impl<S: Surface> Held<S> {
     }
 
     /// Begins a log at the mesh as it is: what was told is forgotten, and the first lines of the log are told. Mesh 0 is
-    /// then saved. Where memory is wanting nothing is changed. That no group is open, and that ids are dense, is for the caller to ask.
+    /// then saved. Where ids are not dense, they tell which there are. Where memory is wanting nothing is changed. That no group is open is
+    /// for the caller to ask.
     pub fn begin_log(&mut self, alloc: Global) -> Result<(), NoMemory>
         ensures tells { OnOk result (Writes (begin_effect (held_state self.old))
             (held_state self.new) (text_where (keeps_lines self.old) []) (log_in self.new) (Ok None)) }
