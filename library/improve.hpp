@@ -84,6 +84,8 @@ public:
         if (by.restore_volume)
             give_back();
     }
+    // The surface as it is right after `improve`, for who looks at it next; mostly it is read already.
+    const Mesh &mesh_left() { return read(), mesh; }
     Improved told; // since the improver was made
 
 private:

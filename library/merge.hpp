@@ -3,6 +3,7 @@
 // free of self-intersections.
 //
 //     topo_mesh::merge(tracker, {0.01});                  // a mean edge of one centimetre; after each step
+//     topo_mesh::merge(tracker, {0.01}, improver.mesh_left());        // the same, where an Improver has read the surface
 //
 // A pass of zips joins two sheets by many tunnels beside one another and leaves the walls between them: the two sheets stay, as a sieve.
 // Here there is one tunnel, and its walls are taken away:
@@ -74,22 +75,35 @@ public:
     }
     Merged told; // since the merger was made
 
+    // The surface is read for it, or `mesh` is the surface as it is, as Improver::mesh_left has it.
     void merge()
     {
+        Mesh mesh;
+        mesh.read(tracker), merge(mesh);
+    }
+    void merge(const Mesh &mesh)
+    {
         near.clear(), tried.clear(), filled.clear(); // the surface may have moved since an earlier call
-        mesh.read(tracker);
-        read_points();
-        normals.clear();
+        std::vector<Point> normals; // of the faces, of length 1, or 0 where a face has no area
         for (int f = 0; f < static_cast<int>(mesh.faces.size()); ++f) {
             const Point n = mesh.normal(f);
             const double size = norm(n);
             normals.push_back((size > 0 ? 1 / size : 0) * n);
         }
-        for (const Mesh::Edge &e : mesh.edges) // folds that an earlier call left; what is pushed is looked at exactly
-            if (dot(normals[e.left], normals[e.right]) <= by.folded + 1e-9)
-                push({mesh.id[e.a], mesh.id[e.b], mesh.id[e.c], mesh.id[e.d]});
+        for (const Mesh::Edge &e : mesh.edges) // folds that an earlier call left; what may be one is looked at exactly
+            if (dot(normals[e.left], normals[e.right]) <= by.folded + 1e-9) {
+                const Point &c = mesh.points[e.c], &d = mesh.points[e.d];
+                if (is_fold(mesh.points[e.a], mesh.points[e.b], c, d))
+                    queue.push({norm(c - d), mesh.id[e.a], mesh.id[e.b]});
+            }
+        const std::vector<std::pair<Side, Side>> pairs = facing_sides(mesh, normals);
+        if (queue.empty() && pairs.empty()) // as in most steps
+            return;
+        at.clear();
+        for (std::size_t i = 0; i < mesh.id.size(); ++i)
+            at[mesh.id[i]] = mesh.points[i];
         grow();
-        for (const Match &m : matches()) {
+        for (const Match &m : matches(pairs)) {
             if (seed(m.a, m.b, m.e, m.f))
                 grow();
         }
@@ -98,6 +112,7 @@ public:
     // kept too. It ends, since each leaves fewer faces. Some may be left: told.crowded_left.
     void mend()
     {
+        Mesh mesh;
         for (int k = 0; k < by.mend_rounds; ++k) {
             mesh.read(tracker);
             read_points();
@@ -129,8 +144,6 @@ private:
     topo_tracker &tracker;
     const Merging by;
     const double h, gap, reach;            // in grid units
-    Mesh mesh;                             // as it was when the call began
-    std::vector<Point> normals;            // of its faces, of length 1, or 0 where a face has no area
     std::unordered_map<Id, Point> at;      // where each vertex stands
     std::priority_queue<Fold> queue;       // the nearest first
     std::map<Pair, int> tried;             // how often closing a fold over this edge was refused
@@ -223,9 +236,9 @@ private:
     // ---- grow ----
 
     // Whether the two faces at an edge face each other, and are near.
-    bool is_fold(const Ring &r)
+    bool is_fold(const Ring &r) { return is_fold(at[r.a], at[r.b], at[r.c], at[r.d]); }
+    bool is_fold(const Point &a, const Point &b, const Point &c, const Point &d) const
     {
-        const Point &a = at[r.a], &b = at[r.b], &c = at[r.c], &d = at[r.d];
         if (norm(c - d) > reach)
             return false;
         const Point n = area_vector(a, b, c), m = area_vector(b, a, d);
@@ -387,48 +400,88 @@ private:
         const Point d = u.mid - s.mid;
         return dot(d, d) <= gap * gap && dot(d, s.normal) > 0 && dot(d, u.normal) < 0;
     }
+    // Sides of a cell, as wide as the gap. Of two sides that face each other one is turned to either end of an axis, by as much in all as
+    // `apart_by` says, so to one end by half of that: `ways` has a bit for each end to which a side is turned so, and `others` the same bit where
+    // one is turned from it so far that the two may face each other.
+    struct Cell { std::uint64_t key = 0; int first = -1; unsigned ways = 0, others = 0; };
+    // The pairs of edges that face each other across a gap, of the surface as it was when the call began. Near most edges no face is turned the
+    // other way, so that nothing has to be compared there.
+    std::vector<std::pair<Side, Side>> facing_sides(const Mesh &mesh, const std::vector<Point> &normals) const
+    {
+        const double apart_by = std::sqrt(std::max(0.0, 2 - 2 * by.facing) / 3) - 1e-6;
+        std::vector<Side> sides;
+        std::vector<int> next; // the next side of the same cell
+        sides.reserve(mesh.edges.size()), next.reserve(mesh.edges.size());
+        int bits = 1;
+        while (mesh.edges.size() >> (bits - 1))
+            ++bits;
+        std::vector<Cell> table(std::size_t{1} << bits);
+        std::vector<std::uint64_t> keys;
+        const auto cell = [&](std::uint64_t key) -> Cell & {
+            std::size_t i = (key * 0x9E3779B97F4A7C15) >> (64 - bits);
+            while (table[i].first >= 0 && table[i].key != key)
+                i = (i + 1) & (table.size() - 1);
+            return table[i];
+        };
+        // 21 bits for each axis: cells of one key are next to each other or far apart, and no two about one place have the same
+        const std::uint64_t low = (1 << 21) - 1;
+        const auto key_of = [&](const Point &p) {
+            const auto in = [&](int axis) { return static_cast<std::uint64_t>(static_cast<std::int64_t>(std::floor(p[axis] / gap))) & low; };
+            return in(2) << 42 | in(1) << 21 | in(0);
+        };
+        for (const Mesh::Edge &e : mesh.edges) {
+            const Point &n = normals[e.left], &m = normals[e.right], sum = n + m;
+            const double size = norm(sum);
+            if (!(dot(n, n) > 0) || !(dot(m, m) > 0) || !(size > 0))
+                continue;
+            sides.push_back({0.5 * (mesh.points[e.a] + mesh.points[e.b]), (1 / size) * sum, mesh.id[e.a], mesh.id[e.b]});
+            const Side &s = sides.back();
+            const std::uint64_t key = key_of(s.mid);
+            Cell &in = cell(key);
+            if (in.first < 0)
+                in.key = key, keys.push_back(key);
+            next.push_back(in.first), in.first = static_cast<int>(sides.size()) - 1;
+            for (int axis = 0; axis < 3; ++axis) {
+                const double x = s.normal[axis];
+                in.ways |= (x >= apart_by / 2) << (2 * axis) | (-x >= apart_by / 2) << (2 * axis + 1);
+                in.others |= (x <= 1 - apart_by) << (2 * axis) | (-x <= 1 - apart_by) << (2 * axis + 1);
+            }
+        }
+        std::vector<std::pair<Side, Side>> found;
+        const auto compare = [&](const Cell &one, const Cell &other) {
+            if (!(one.ways & other.others) && !(other.ways & one.others))
+                return;
+            for (int i = one.first; i >= 0; i = next[i])
+                for (int j = &one == &other ? next[i] : other.first; j >= 0; j = next[j]) {
+                    const Side &s = sides[i], &u = sides[j];
+                    if (face_each_other(s, u)) // the first is that of the lesser x, as in merge.py
+                        found.push_back(std::tie(s.mid[0], s.a, s.b) < std::tie(u.mid[0], u.a, u.b) ? std::pair(s, u) : std::pair(u, s));
+                }
+        };
+        for (const std::uint64_t key : keys) {
+            const Cell &one = cell(key);
+            compare(one, one);
+            for (int k = 14; k < 27; ++k) { // of its neighbours the half that come behind it
+                const std::uint64_t x = key + k % 3 - 1, y = (key >> 21) + k / 3 % 3 - 1, z = (key >> 42) + k / 9 - 1;
+                if (const Cell &other = cell((z & low) << 42 | (y & low) << 21 | (x & low)); other.first >= 0)
+                    compare(one, other);
+            }
+        }
+        return found;
+    }
     bool stand(const Side &s) const { return at.count(s.a) && at.count(s.b); }
     Match match(const Side &s, const Side &u)
     {
         const Point &a = at[s.a], &b = at[s.b], &e = at[u.a], &f = at[u.b];
         return {norm(u.mid - s.mid) + std::min(norm(a - e) + norm(b - f), norm(a - f) + norm(b - e)), s.a, s.b, u.a, u.b};
     }
-    // The pairs of edges that face each other across a gap, the nearest first.
-    std::vector<Match> matches()
+    // Those whose ends still stand, the nearest first.
+    std::vector<Match> matches(const std::vector<std::pair<Side, Side>> &pairs)
     {
-        // by cells as wide as the gap, in rows along x
-        using Cell = std::array<std::int32_t, 3>;
-        std::vector<std::pair<Cell, Side>> sides;
-        sides.reserve(mesh.edges.size());
-        for (const Mesh::Edge &e : mesh.edges) {
-            const Point &n = normals[e.left], &m = normals[e.right], sum = n + m;
-            const double size = norm(sum);
-            if (!(dot(n, n) > 0) || !(dot(m, m) > 0) || !(size > 0))
-                continue;
-            const Point mid = 0.5 * (mesh.points[e.a] + mesh.points[e.b]);
-            const auto in = [&](int axis) { return static_cast<std::int32_t>(std::floor(mid[axis] / gap)); };
-            sides.push_back({{in(2), in(1), in(0)}, {mid, (1 / size) * sum, mesh.id[e.a], mesh.id[e.b]}});
-        }
-        std::sort(sides.begin(), sides.end(), [](const auto &s, const auto &u) { return s.first < u.first; });
         std::vector<Match> found;
-        // Each side is compared with those behind it, so each pair once: in its own row of cells and in four others, three cells of each.
-        // As the sides come in order, so do the first of these, and no cell is looked up.
-        const std::array<int, 2> rows[] = {{0, 0}, {0, 1}, {1, -1}, {1, 0}, {1, 1}};
-        std::size_t from[5] = {};
-        for (std::size_t i = 0; i < sides.size(); ++i) {
-            const Cell &cell = sides[i].first;
-            for (int k = 0; k < 5; ++k) {
-                const auto [z, y] = rows[k];
-                const Cell low{cell[0] + z, cell[1] + y, cell[2] - 1}, high{low[0], low[1], cell[2] + 1};
-                while (from[k] < sides.size() && (k ? sides[from[k]].first < low : from[k] <= i))
-                    ++from[k];
-                for (std::size_t j = from[k]; j < sides.size() && sides[j].first <= high; ++j) {
-                    const Side &s = sides[i].second, &u = sides[j].second;
-                    if (face_each_other(s, u) && stand(s) && stand(u)) // the first is that of the lesser x, as in merge.py
-                        found.push_back(std::tie(s.mid[0], s.a, s.b) < std::tie(u.mid[0], u.a, u.b) ? match(s, u) : match(u, s));
-                }
-            }
-        }
+        for (const auto &[s, u] : pairs)
+            if (stand(s) && stand(u))
+                found.push_back(match(s, u));
         const auto by_far = [](const Match &p, const Match &q) {
             return std::tie(p.far, p.a, p.b, p.e, p.f) < std::tie(q.far, q.a, q.b, q.e, q.f);
         };
@@ -500,6 +553,12 @@ inline Merged merge(topo_tracker &tracker, const Merging &by)
 {
     Merger merger(tracker, by);
     return merger.merge(), merger.told;
+}
+// The same of a surface of which the rows are at hand.
+inline Merged merge(topo_tracker &tracker, const Merging &by, const Mesh &mesh)
+{
+    Merger merger(tracker, by);
+    return merger.merge(mesh), merger.told;
 }
 // Takes non-manifold edges out, and tells what was done.
 inline Merged mend(topo_tracker &tracker, const Merging &by)

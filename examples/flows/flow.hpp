@@ -244,7 +244,7 @@ private:
     }
     void join()
     {
-        const Merged m = merge(*tracker, merging);
+        const Merged m = plain ? merge(*tracker, merging) : merge(*tracker, merging, improver->mesh_left());
         merged.seeds += m.seeds, merged.folds_closed += m.folds_closed, merged.pinches += m.pinches, merged.turning += m.turning;
         merged.filled += m.filled;
         merged.undone_refused += m.undone_refused, merged.undone_crowded += m.undone_crowded;
