@@ -1,6 +1,5 @@
 //! The lines that tell which ids the vertices and the faces of a mesh have.
 ghost use Rattle.std.specs.Prelude.{◌≡◌, IfOk, OnOk};
-ghost use Rattle.std.specs.FinMap as finite;
 ghost use Rattle.log_write.specs.Written.{Says};
 ghost use Rattle.track_held.specs.Heads.{has_dense_ids, head_version, vertices_line, faces_line, id_lines};
 
