@@ -142,7 +142,7 @@ SAID = {
         "| refused (status {status:a file could}), and it stays",
         "Where either can not be done the status is {status:a file could},",
         "Nothing is read, written or stored, and the status is {status:a file could},",
-        "Where a write fails the status is {status:standard output}.",
+        "Where a write to standard output fails the status is {status:standard output}.",
     ],
     "docs/CERTIFICATES.md": [
         "at most {DEPTH_MAX} halves deep, and no number of it has a size above 2 to the power {^DIRECTION_MAX}.",
@@ -172,7 +172,7 @@ SAID = {
         "or `high` is above 2^{^LENGTH_MAX};",
         "the depth above {DEPTH_MAX}.",
         "| 2^{^number_most+1} - 1 steps were taken, or meshes saved |",
-        "the version of the log, {VERSION};",
+        "the version of a log that tells no ids, {VERSION};",
         "Each of the {calls} functions",
         "up to {volume_bits} bits",
         "the {owed:w} points at the head of `library/topo.h`",

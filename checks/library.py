@@ -171,6 +171,8 @@ def by_chapters(words, program, folder):
     os.mkdir(run)
     status, _, messages = ran([compiled(words, os.path.join(ROOT, "examples/library/chapters.cpp"), folder), run])
     yield f"chapters.cpp: {messages}", status == 0 and messages.count(": mesh 1 has ") == 3
+    heads = [open(os.path.join(run, f"log{k}.txt")).readline() for k in range(3)]
+    yield f"the logs of later chapters tell ids: {heads}", heads == ["topo log 2\n", "topo log 3\n", "topo log 3\n"]
     for k in range(3):
         taken = []
         for command, names in (("measure", []), ("prove", []), ("verify", ["proof"]), ("replay", ["again"])):

@@ -1,5 +1,6 @@
-// A long run in chapters: each has an OBJ file of the surface as it begins, and a log of its own that the program takes beside that file. Ids are made
-// dense between two chapters, so that they stay low however long the run is. Writes start0.obj, log0.txt, end0.obj and so on into a folder.
+// A long run in chapters: each has an OBJ file of the surface as it begins, and a log of its own that the program takes beside that file. Ids go on from
+// chapter to chapter, so that what the caller knows by an id stays good: where edits have left gaps, the log begins with the ids of the file's rows.
+// Writes start0.obj, log0.txt, end0.obj and so on into a folder.
 //
 //     c++ -std=c++17 -O2 -I library examples/library/chapters.cpp library/out/libtopo.a -o chapters && mkdir -p run && ./chapters run
 //     topo replay run/start2.obj run/log2.txt run/again --large && cmp run/end2.obj run/again-000001.obj
@@ -53,7 +54,6 @@ int main(int words, char **word)
         surface.solid(held);
     for (int chapter = 0; chapter < 3; ++chapter) {
         const auto named = [&](const char *what, const char *ending) { return std::string(word[1]) + "/" + what + std::to_string(chapter) + ending; };
-        surface.renumber();
         surface.begin_log();
         write(surface, named("start", ".obj"));
         std::ofstream log(named("log", ".txt"));
