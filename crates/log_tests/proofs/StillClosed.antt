@@ -28,8 +28,8 @@ group_closed s false (m ∷ outer) e h =
 
 -- a line behind others
 later_closed : (s : LogState) (l : LogLine) → FitsLater s l → MayBeNamed s.replay.mesh l → MayBeTried (with_line s l).replay.mesh l → AreClosed s → AreClosed (with_line s l)
-later_closed s (line.Vertices new) fits named tried h = record { now = (vertices_stay_valid s.replay.mesh new.ids new.next fits.1.1 named).closed; groups = h.groups }
-later_closed s (line.Faces new) fits named tried h = record { now = (faces_stay_valid s.replay.mesh new.ids new.next fits.1.1 named).closed; groups = h.groups }
+later_closed s (line.Vertices new) fits named tried h = record { now = (vertices_stay_valid s.replay.mesh new.ids new.next fits.2 named).closed; groups = h.groups }
+later_closed s (line.Faces new) fits named tried h = record { now = (faces_stay_valid s.replay.mesh new.ids new.next fits.2 named).closed; groups = h.groups }
 later_closed s (line.Moved how) fits named tried h = record { now = closed-with_moves s.replay.mesh s.replay.moves h.now; groups = h.groups }
 later_closed s (line.Did change) fits named tried h = record { now = tried.0; groups = h.groups }
 later_closed s line.Group fits named tried h = record { now = h.now; groups = (h.now, h.groups) }

@@ -249,7 +249,7 @@ const MISFITS: [(&[u8], &[u8], usize); 51] = [
     ),
     (
         TETRAHEDRON,
-        b"topo log 3\nsplit 1 2 5 2 0 0\ncollapse 1 5 0 0 0\nvertices 5 1 2 3 4\n",
+        b"topo log 3\nsplit 1 2 5 2 0 0\ncollapse 1 5 1 0 0\nvertices 5 1 2 3 4\nsplit 1 2 5 2 0 0\n",
         0,
     ),
     // Other meshes.
