@@ -15,4 +15,4 @@ returns-clause-closed g c e =
     let Q : Result Bool NoMemory → Type 0 = λ r. IfOk r (λ fits. IsTrue fits ↔ LineFits old line) in
     let fits : IsTrue true ↔ LineFits old line = subst Q e c.take.ensures.fits in
     subst AreClosed (sym (c.take.ensures.taken e))
-    (still_closed old line (fits.0 refl) c.in_ok-may_be_tried.ensures.named (subst P (c.take.ensures.taken e) c.take.ensures.left) c.requires.closed)
+    (still_closed old line (fits.0 refl) (c.in_ok-may_be_tried.ensures.named refl) (subst P (c.take.ensures.taken e) c.take.ensures.left) c.requires.closed)
