@@ -207,7 +207,7 @@ TOLD = [
     ("a log of a run that was refused", ["measure", "m", "l"], None, 0, [], ["warning"],
      {"m": MESH, "l": "topo log 2\nmesh 0 4 4\nrefused use 1 vertex 5\n"}, {}),
     ("a log whose lines end with CRLF", ["measure", "m", "l"], None, 12, ["the text has the byte CR"], ["needless"], {"m": MESH, "l": "topo log 2\r\nend\r\n"}, {}),
-    ("a log of another version", ["measure", "m", "l"], None, 12, ["its version is none that this program knows"], ["needless"], {"m": MESH, "l": "topo log 3\nend\n"}, {}),
+    ("a log of another version", ["measure", "m", "l"], None, 12, ["its version is none that this program knows"], ["needless"], {"m": MESH, "l": "topo log 4\nend\n"}, {}),
     ("a proof whose lines end with CRLF", ["verify", "m", "l", "p"], None, 14, ["the text has the byte CR"], ["needless"],
      {"m": MESH, "l": "topo log 2\nmesh 0 4 4\nend\n", "p": "topo proof 1\r\nend\r\n"}, {}),
     ("a proof of another version", ["verify", "m", "l", "p"], None, 14, ["its version is none that this program knows"], ["needless"],
