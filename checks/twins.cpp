@@ -1,5 +1,5 @@
 // The same calls of improve.hpp and merge.hpp as twins.py makes of their twins in Python: reads a mesh of whole points, and writes the log
-// of so many rounds of a mode, which is `flow`, `merge`, `merge along normals` or `mend`.
+// of so many rounds of a mode, which is `flow`, `merge`, `improve and merge`, `merge along normals` or `mend`.
 #include "improve.hpp"
 #include "merge.hpp"
 
@@ -42,6 +42,9 @@ int main(int count, char **words)
             improver.improve();
         } else if (mode == "merge") {
             merge(tracker, {1000});
+        } else if (mode == "improve and merge") {
+            improver.improve();
+            merge(tracker, {1000}, improver.mesh_left());
         } else if (mode == "merge along normals") {
             merge(tracker, merging_along_normals(1000));
         } else {

@@ -37,6 +37,7 @@ def jobs():
     yield "a flat ball", "flow", 3, ([(x, y, round(0.06 * z)) for x, y, z in points], faces)
     yield "two balls", "merge", 2, pair(ball(4), (far + 400, 31, 17))
     yield "two bumpy balls", "merge", 2, pair(ball(4, 0.1, 5), (31, far + 500, 17))
+    yield "two bumpy balls", "improve and merge", 2, pair(ball(4, 0.1, 5), (31, far + 500, 17))
     yield "slabs", "merge", 2, pair(slab(6, 2), (300, 180, 2500))
     yield "a groove", "merge along normals", 2, groove(OPEN)
     yield "a groove below lips", "merge", 2, groove(LIPS)
@@ -56,6 +57,9 @@ def log_of(library, mode, rounds, points, faces):
                 improver.improve()
             elif mode == "merge":
                 merge.merge(surface, merge.Merging(H))
+            elif mode == "improve and merge":  # of the rows that are left, with numpy, or of those that are read
+                improver.improve()
+                merge.merge(surface, merge.Merging(H), improver.mesh_left() if improve.numpy else None)
             elif mode == "merge along normals":
                 merge.merge(surface, merge.merging_along_normals(H))
             else:

@@ -257,6 +257,11 @@ class Improver:
         if self.by.restore_volume:
             self.give_back()
 
+    def mesh_left(self):
+        """The surface as it is right after `improve`, for who looks at it next; mostly it is read already."""
+        self.read()
+        return self.mesh
+
     # -- the parts, for who wants them in another order
 
     def split_long(self):

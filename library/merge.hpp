@@ -252,19 +252,27 @@ private:
         if (is_fold(r))
             queue.push({norm(at[r.c] - at[r.d]), r.a, r.b});
     }
+    template <class T> static void only_once(std::vector<T> &them)
+    {
+        std::sort(them.begin(), them.end());
+        them.erase(std::unique(them.begin(), them.end()), them.end());
+    }
     // The folds at the edges of a vertex and of its neighbours.
     void push_around(Id v)
     {
         if (!at.count(v))
             return;
-        std::set<Id> near = around(v);
-        near.insert(v);
-        std::set<std::array<Id, 4>> sides; // of a face: an edge, whether it runs back, and the corner opposite it
+        std::vector<Id> near{v};
+        for (const topo_face &f : tracker.star(v))
+            near.insert(near.end(), {f.a, f.b, f.c});
+        only_once(near);
+        std::vector<std::array<Id, 4>> sides; // of a face: an edge, whether it runs back, and the corner opposite it
         for (const Id w : near)
             for (const topo_face &f : tracker.star(w))
                 for (const auto &k : {std::array<Id, 3>{f.a, f.b, f.c}, {f.b, f.c, f.a}, {f.c, f.a, f.b}})
                     if (k[0] == w || k[1] == w)
-                        sides.insert({std::min(k[0], k[1]), std::max(k[0], k[1]), k[0] > k[1], k[2]});
+                        sides.push_back({std::min(k[0], k[1]), std::max(k[0], k[1]), k[0] > k[1], k[2]});
+        only_once(sides);
         for (auto it = sides.begin(); it != sides.end();) {
             const std::array<Id, 4> forth = *it, back = ++it == sides.end() ? forth : *it;
             const auto same = [&] { return it != sides.end() && (*it)[0] == forth[0] && (*it)[1] == forth[1]; };
@@ -400,9 +408,9 @@ private:
         const Point d = u.mid - s.mid;
         return dot(d, d) <= gap * gap && dot(d, s.normal) > 0 && dot(d, u.normal) < 0;
     }
-    // Sides of a cell, as wide as the gap. Of two sides that face each other one is turned to either end of an axis, by as much in all as
-    // `apart_by` says, so to one end by half of that: `ways` has a bit for each end to which a side is turned so, and `others` the same bit where
-    // one is turned from it so far that the two may face each other.
+    // Sides of a cell, as wide as the gap. Of two sides that face each other one is turned to either end of an axis, by `apart_by` in all at
+    // least, and so to one end by half of that: `ways` has a bit for each end to which a side is turned so, and `others` the same bit where one
+    // is turned from it so far that the two may face each other.
     struct Cell { std::uint64_t key = 0; int first = -1; unsigned ways = 0, others = 0; };
     // The pairs of edges that face each other across a gap, of the surface as it was when the call began. Near most edges no face is turned the
     // other way, so that nothing has to be compared there.

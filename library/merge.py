@@ -4,6 +4,7 @@ self-intersections. It takes the same decisions as merge.hpp.
 
     import merge
     merge.merge(surface, merge.Merging(0.01))     # a mean edge of one centimetre; after each step
+    merge.merge(surface, merge.Merging(0.01), improver.mesh_left())  # the same, where an Improver has read the surface
 
 A pass of zips joins two sheets by many tunnels beside one another and leaves the walls between them: the two sheets stay, as a sieve. Here
 there is one tunnel, and its walls are taken away:
@@ -93,13 +94,19 @@ class Merger:
         self.filled = set()     # edges that a flip alone made
         self.near = {}          # in a call, the vertices within `apart` edges of one, as long as nothing is joined
 
-    def merge(self):
+    def merge(self, mesh=None):
+        """The surface is read for it, or `mesh` is the surface as it is, as Improver.mesh_left has it."""
         self.near, self.tried, self.filled = {}, collections.Counter(), set()  # the surface may have moved since an earlier call
-        self.read()
-        for ring in self.folds():  # that an earlier call left
-            self.push_ring(ring)
+        mesh = Mesh(self.surface) if mesh is None else mesh
+        for a, b, c, d in self.bends(mesh):  # folds that an earlier call left
+            if self.is_fold(*(mesh.points[v] for v in (a, b, c, d))):
+                heapq.heappush(self.queue, (norm(minus(mesh.points[c], mesh.points[d])), mesh.ids[a], mesh.ids[b]))
+        pairs = self.facing_sides(mesh)
+        if not self.queue and not pairs:  # as in most steps
+            return
+        self.at = dict(zip(mesh.ids, mesh.points))  # where each vertex stands
         self.grow()
-        for _, a, b, e, f in self.matches():
+        for _, a, b, e, f in self.matches(pairs):
             if self.seed(a, b, e, f):
                 self.grow()
 
@@ -107,8 +114,9 @@ class Merger:
         """Takes non-manifold edges out, by collapses that leave fewer of them, and pinches. In each second round one that leaves as
         many is kept too. It ends, since each leaves fewer faces. Some may be left: told.crowded_left."""
         for k in range(self.by.mend_rounds):
-            self.read()
-            edges = [(self.mesh.ids[a], self.mesh.ids[b]) for a, b in self.mesh.crowded]
+            mesh = Mesh(self.surface)
+            self.at = dict(zip(mesh.ids, mesh.points))
+            edges = [(mesh.ids[a], mesh.ids[b]) for a, b in mesh.crowded]
             done = [self.mend_at(edge, k % 2) for edge in edges if self.is_crowded(edge)]
             pinched = self.pinch_fans()
             if not edges or (not any(done) and not pinched and k % 2):
@@ -116,10 +124,6 @@ class Merger:
         self.told.crowded_left = len(Mesh(self.surface).crowded)
 
     # -- what the surface is around a place
-
-    def read(self):
-        self.mesh = Mesh(self.surface)  # as it was when the call began
-        self.at = dict(zip(self.mesh.ids, self.mesh.points))  # where each vertex stands
 
     def read_points(self):
         self.at = {v: (float(x), float(y), float(z)) for v, x, y, z in self.surface.rows("topo_points", topo.Vertex).tolist()}
@@ -203,12 +207,12 @@ class Merger:
             return False
         return min(over / size, dot(m, minus(c, a)) / other) <= self.gap
 
-    def folds(self):
-        """Of the mesh as it was read."""
-        mesh, which = self.mesh, range(len(self.mesh.edges))
+    def bends(self, mesh):
+        """The edges of a mesh that may be folds, each with the corners opposite it, as rows."""
+        which = range(len(mesh.edges))
         if numpy is not None and mesh.edges:
             which = numpy.flatnonzero(Columns(mesh).bend() < self.by.folded + SLACK).tolist()
-        return [Ring(*(mesh.ids[v] for v in mesh.edges[i][:4])) for i in which if mesh.edges[i].c != mesh.edges[i].d]
+        return [mesh.edges[i][:4] for i in which]
 
     def push_ring(self, ring):
         if ring and self.is_fold(*(self.at[v] for v in ring)):
@@ -307,37 +311,62 @@ class Merger:
             self.push_around(v)
         return True
 
-    def sides(self):
+    def sides(self, mesh):
         """The middle of each edge, the mean normal of its faces, and its ends, by x."""
-        mesh, sides = self.mesh, []
+        units, sides = [], []
+        for f in range(len(mesh.faces)):
+            n = mesh.normal(f)
+            size = norm(n)
+            units.append(tuple(1 / size * p for p in n) if size > 0 else None)
         for edge in mesh.edges:
-            n, m = mesh.normal(edge.left), mesh.normal(edge.right)
-            if norm(n) > 0 and norm(m) > 0:
-                i, j = 1 / norm(n), 1 / norm(m)
-                mean = tuple(i * p + j * q for p, q in zip(n, m))
+            n, m = units[edge.left], units[edge.right]
+            if n and m:
+                mean = n[0] + m[0], n[1] + m[1], n[2] + m[2]
                 size = norm(mean)
                 if size > 0:
                     mid = tuple(0.5 * (p + q) for p, q in zip(mesh.points[edge.a], mesh.points[edge.b]))
                     sides.append((mid, tuple(1 / size * p for p in mean), mesh.ids[edge.a], mesh.ids[edge.b]))
         return sorted(sides, key=lambda side: (side[0][0], side[2], side[3]))
 
-    def matches(self):
-        """The pairs of edges that face each other across a gap, the nearest first."""
-        sides, cells, found = self.sides(), collections.defaultdict(list), []
-        for i, (mid, *_) in enumerate(sides):
-            cells[tuple(math.floor(x / self.gap) for x in mid)].append(i)
-        for cell, members in cells.items():
-            near = [j for by in itertools.product((-1, 0, 1), repeat=3) for j in cells.get(tuple(map(int.__add__, cell, by)), ())]
-            for i in members:
-                (x, y, z), (p, q, r), *_ = sides[i]
-                for j in near:
-                    (u, v, w), (k, m, n), *_ = sides[j]
-                    if j > i and p * k + q * m + r * n <= self.by.facing:
-                        d = u - x, v - y, w - z
+    @staticmethod
+    def ways(normal, apart_by):
+        """Of two sides that face each other one is turned to either end of an axis, by so much in all at least, and so to one end by half
+        of that: the first number has a bit for each end to which a side is turned so, and the second the same bit where one is turned
+        from it so far that the two may face each other."""
+        ways = others = 0
+        for i, x in enumerate((*normal, *(-x for x in normal))):
+            ways |= (x >= apart_by / 2) << i
+            others |= (x <= 1 - apart_by) << i
+        return ways, others
+
+    def facing_sides(self, mesh):
+        """The pairs of edges that face each other across a gap, of the surface as it was when the call began. Near most edges no face is
+        turned the other way, so that nothing has to be compared there."""
+        sides, cells, found = self.sides(mesh), {}, []
+        apart_by = math.sqrt(max(0.0, 2 - 2 * self.by.facing) / 3) - SLACK
+        for i, (mid, normal, *_) in enumerate(sides):
+            cell = cells.setdefault(tuple(math.floor(x / self.gap) for x in mid), [[], 0, 0])
+            ways, others = self.ways(normal, apart_by)
+            cell[0].append(i)
+            cell[1] |= ways
+            cell[2] |= others
+        for key, (members, ways, others) in cells.items():
+            for by in itertools.product((-1, 0, 1), repeat=3):
+                near, its_ways, its_others = cells.get(tuple(map(int.__add__, key, by)), ((), 0, 0))
+                if by < (0, 0, 0) or not (ways & its_others or its_ways & others):
+                    continue  # each two cells are compared once
+                for i, j in itertools.product(members, near):
+                    one, other = sides[min(i, j)], sides[max(i, j)]  # the first is that of the lesser x, as in merge.hpp
+                    if (i < j or any(by)) and dot(one[1], other[1]) <= self.by.facing:
+                        d = minus(other[0], one[0])
                         # each lies on the outer side of the other
-                        if dot(d, d) <= self.gap * self.gap and dot(d, (p, q, r)) > 0 > dot(d, (k, m, n)):
-                            found += self.match(d, sides[i][2:], sides[j][2:])
-        return sorted(found)
+                        if dot(d, d) <= self.gap * self.gap and dot(d, one[1]) > 0 > dot(d, other[1]):
+                            found.append((d, one[2:], other[2:]))
+        return found
+
+    def matches(self, pairs):
+        """Those whose ends still stand, the nearest first."""
+        return sorted(it for pair in pairs for it in self.match(*pair))
 
     def match(self, d, one, other):
         if any(v not in self.at for v in one + other):
@@ -389,10 +418,10 @@ class Merger:
         return any(done)
 
 
-def merge(surface, by):
+def merge(surface, by, mesh=None):
     """Joins the sheets that face each other across thin gaps, and tells what was done."""
     merger = Merger(surface, by)
-    merger.merge()
+    merger.merge(mesh)
     return merger.told
 
 

@@ -65,7 +65,7 @@ class Run:
         refused = self.refusals() - before
         spent.append(time.process_time())
         if self.merging.merge_proximity > 0:
-            refused += merge.merge(self.surface, self.merging).undone_refused
+            refused += merge.merge(self.surface, self.merging, self.improver.mesh_left()).undone_refused
         spent.append(time.process_time())
         done = self.tally()
         self.mesh.read()
