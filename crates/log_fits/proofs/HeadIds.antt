@@ -17,10 +17,9 @@ use Rattle.mesh_base.specs.Valid.{IsValidSurface}
 use Rattle.mesh_base.proofs.ListedPairs.{all_weaker}
 use Rattle.mesh_base.proofs.WalkSteps.{both_of}
 use Rattle.mesh_shape.proofs.Lists.{len_numbered}
-use Rattle.mesh_ids.specs.NewIds.{AreRisingBelow, MayTake, vertex_id, renamed, with_vertex_ids, with_face_ids}
+use Rattle.mesh_ids.specs.NewIds.{AreRisingBelow, MayTake, vertex_id, renamed, with_vertex_ids}
 use Rattle.mesh_ids.proofs.Taken.{entries_moved}
 use Rattle.mesh_ids.proofs.TakenBack.{ids_are_taken_back_lem}
-use Rattle.obj_text.specs.Laws.{renumbered}
 use Rattle.obj_text.specs.Written.{ranks, points_in_order, faces_by_rank}
 use Rattle.obj_text.proofs.Renumbered.{closed_again, clear_again}
 use Rattle.log_text.specs.declared.TheConstants.{VERSION, IDS_VERSION}

@@ -25,7 +25,7 @@ use Rattle.track_log.proofs.Endings.{fits_one_more, before_unfit, one_ending}
 use Rattle.track_measure.specs.declared.measures.MeshShape.{MeshShape}
 use Rattle.track_measure.specs.declared.measures.MeasureLine.{MeasureLine}
 use Rattle.track_measure.specs.declared.measures.MeasureLine.TheVariants.{End}
-use Rattle.track_measure.specs.MeasureLines.{shape_of, measure_of_line, one_told, lines_from, lines_of_first, measure_lines}
+use Rattle.track_measure.specs.MeasureLines.{shape_of, measure_of_line, one_told, lines_from}
 use Rattle.track_measure.specs.Texts.{text_of, text_of_all}
 use Rattle.track_measure.specs.Measured.{line_text, MeasuresLine, MeasuresLines}
 use Rattle.track_measure.specs.Headline.{text_told, IsToldOf}

@@ -1,3 +1,5 @@
+mod OtherIds
+mod NewIds
 mod ShapeKept
 mod LinesTold
 mod Ends

@@ -1,5 +1,5 @@
 -- Which lines leave the shape.
-use Rattle.std.proofs.Common.{◌≡◌, ℕ, Bool, true, false, List, [], ◌∷◌, refl, ap, sym, ◌∙◌, ap₂}
+use Rattle.std.proofs.Common.{◌≡◌, Bool, true, false, List, [], ◌∷◌, refl, ap, sym, ◌∙◌, ap₂}
 use Rattle.std.proofs.Common.{Result, Ok, Err, IfOk, subst}
 use Rattle.std.specs.Prelude.{MatchBool}
 use Rattle.grid_base.specs.declared.NoMemory.{NoMemory}
@@ -14,12 +14,13 @@ use Rattle.mesh_base.specs.Shifts.{Shifts, with_moves}
 use Rattle.edit_base.specs.declared.Change.{Change}
 use Rattle.log_text.specs.declared.LogLine.{LogLine}
 use Rattle.log_text.specs.declared.LogLine.TheVariants as line
-use Rattle.log_text.specs.declared.NewIds.{NewIds}
 use Rattle.log_replay.specs.Moves.{AreMoves}
 use Rattle.log_replay.specs.Replay.{Replay, closed}
+use Rattle.log_run.specs.Fits.{LineFits}
 use Rattle.log_run.specs.Laws.{IsValidState}
 use Rattle.log_run.specs.States.{LogState, with_line}
 use Rattle.track_measure.specs.MeasureLines.{shape_of}
+use Rattle.track_measure.proofs.NewIds.{vertices_keep, faces_keep}
 
 -- moves of live vertices
 moved_shape : (m : Mesh) (moves : Shifts) → AreMoves m moves → shape_of (with_moves m moves) ≡ shape_of m
@@ -30,27 +31,27 @@ kept_shape : (stack : List Mesh) (r : Replay) → shape_of (closed true stack r)
 kept_shape [] r = refl
 kept_shape (m ∷ outer) r = refl
 
--- all lines but those of edits that are done, of new ids, and of groups that are taken back
-pub kept_by : (s : LogState) (l : LogLine) → IsValidState s → ((change : Change) → l ≡ line.Did change → ⊥) → (l ≡ line.Close false → ⊥) → ((new : NewIds) → l ≡ line.Vertices new → ⊥) → ((new : NewIds) → l ≡ line.Faces new → ⊥) → shape_of (with_line s l).replay.mesh ≡ shape_of s.replay.mesh
-kept_by s (line.First version) valid no_edit not_undone no_vertices no_faces = refl
-kept_by s (line.Mesh k vertices faces) valid no_edit not_undone no_vertices no_faces = refl
-kept_by s (line.Step k) valid no_edit not_undone no_vertices no_faces = refl
-kept_by s (line.Solid v) valid no_edit not_undone no_vertices no_faces = refl
-kept_by s (line.Hit pair) valid no_edit not_undone no_vertices no_faces = refl
-kept_by s (line.Vertices new) valid no_edit not_undone no_vertices no_faces = absurd (no_vertices new refl)
-kept_by s (line.Faces new) valid no_edit not_undone no_vertices no_faces = absurd (no_faces new refl)
-kept_by s (line.Block ids) valid no_edit not_undone no_vertices no_faces = refl
-kept_by s (line.Move shift) valid no_edit not_undone no_vertices no_faces = refl
-kept_by s (line.Moved how) valid no_edit not_undone no_vertices no_faces = moved_shape s.replay.mesh s.replay.moves valid.moves
-kept_by s (line.Pass kind) valid no_edit not_undone no_vertices no_faces = refl
-kept_by s line.PassFit valid no_edit not_undone no_vertices no_faces = refl
-kept_by s (line.Did change) valid no_edit not_undone no_vertices no_faces = absurd (no_edit change refl)
-kept_by s (line.No what why) valid no_edit not_undone no_vertices no_faces = refl
-kept_by s line.Group valid no_edit not_undone no_vertices no_faces = refl
-kept_by s (line.Close true) valid no_edit not_undone no_vertices no_faces = kept_shape s.replay.stack s.replay
-kept_by s (line.Close false) valid no_edit not_undone no_vertices no_faces = absurd (not_undone refl)
-kept_by s (line.Refused why) valid no_edit not_undone no_vertices no_faces = refl
-kept_by s line.End valid no_edit not_undone no_vertices no_faces = refl
+-- all lines but those of edits that are done and of groups that are taken back
+pub kept_by : (s : LogState) (l : LogLine) → IsValidState s → LineFits s l → ((change : Change) → l ≡ line.Did change → ⊥) → (l ≡ line.Close false → ⊥) → shape_of (with_line s l).replay.mesh ≡ shape_of s.replay.mesh
+kept_by s (line.First version) valid fits no_edit not_undone = refl
+kept_by s (line.Mesh k vertices faces) valid fits no_edit not_undone = refl
+kept_by s (line.Step k) valid fits no_edit not_undone = refl
+kept_by s (line.Vertices new) valid fits no_edit not_undone = vertices_keep s new valid.now.sound fits
+kept_by s (line.Faces new) valid fits no_edit not_undone = faces_keep s new valid.now.sound fits
+kept_by s (line.Solid v) valid fits no_edit not_undone = refl
+kept_by s (line.Hit pair) valid fits no_edit not_undone = refl
+kept_by s (line.Block ids) valid fits no_edit not_undone = refl
+kept_by s (line.Move shift) valid fits no_edit not_undone = refl
+kept_by s (line.Moved how) valid fits no_edit not_undone = moved_shape s.replay.mesh s.replay.moves valid.moves
+kept_by s (line.Pass kind) valid fits no_edit not_undone = refl
+kept_by s line.PassFit valid fits no_edit not_undone = refl
+kept_by s (line.Did change) valid fits no_edit not_undone = absurd (no_edit change refl)
+kept_by s (line.No what why) valid fits no_edit not_undone = refl
+kept_by s line.Group valid fits no_edit not_undone = refl
+kept_by s (line.Close true) valid fits no_edit not_undone = kept_shape s.replay.stack s.replay
+kept_by s (line.Close false) valid fits no_edit not_undone = absurd (not_undone refl)
+kept_by s (line.Refused why) valid fits no_edit not_undone = refl
+kept_by s line.End valid fits no_edit not_undone = refl
 
 -- ---- by what is answered
 
@@ -77,9 +78,8 @@ edit_answer m l change r is h = let P : LogLine → Type 0 = λ x. IfOk r (Keeps
 -- a group that is closed
 pub close_answer : (m : Mesh) (l : LogLine) (kept : Bool) → l ≡ line.Close kept → KeepsShape m l kept
 close_answer m l kept is e s at valid fits =
-    kept_by s l valid (λ change did. absurd (let never = sym is ∙ did in cc)) (λ undone. absurd (let never : line.Close kept ≡ line.Close false = sym is ∙ undone in let no : true ≡ false = sym e ∙ cc in cc))
-    (λ new taken. absurd (let never = sym is ∙ taken in cc)) (λ new taken. absurd (let never = sym is ∙ taken in cc)) ∙ ap shape_of at
+    kept_by s l valid fits (λ change did. absurd (let never = sym is ∙ did in cc)) (λ undone. absurd (let never : line.Close kept ≡ line.Close false = sym is ∙ undone in let no : true ≡ false = sym e ∙ cc in cc)) ∙ ap shape_of at
 
 -- any other line
-pub other_answer : (m : Mesh) (l : LogLine) → ((change : Change) → l ≡ line.Did change → ⊥) → ((new : NewIds) → l ≡ line.Vertices new → ⊥) → ((new : NewIds) → l ≡ line.Faces new → ⊥) → ((kept : Bool) → l ≡ line.Close kept → ⊥) → KeepsShape m l true
-other_answer m l no_edit no_vertices no_faces no_close e s at valid fits = kept_by s l valid no_edit (no_close false) no_vertices no_faces ∙ ap shape_of at
+pub other_answer : (m : Mesh) (l : LogLine) → ((change : Change) → l ≡ line.Did change → ⊥) → ((kept : Bool) → l ≡ line.Close kept → ⊥) → KeepsShape m l true
+other_answer m l no_edit no_close e s at valid fits = kept_by s l valid fits no_edit (no_close false) ∙ ap shape_of at

@@ -1,9 +1,8 @@
 -- The whole of a measurement from its parts.
-use Rattle.std.proofs.Common.{◌≡◌, ◌⊎◌, inl, inr, ℕ, List, Option, Some, None, Result, Ok, Err, IfOk, refl, ap, sym, ◌∙◌, subst}
+use Rattle.std.proofs.Common.{◌≡◌, ◌⊎◌, inl, inr, ℕ, List, Option, Some, Result, Ok, Err, IfOk, refl, ap, sym, ◌∙◌, subst}
 use Rattle.mesh_journal.specs.Journal.{mesh_in}
 use Rattle.log_text.specs.declared.LogLine.{LogLine}
 use Rattle.outside_io.specs.declared.stop.Stop.{Stop}
-use Rattle.outside_io.specs.Desk.{Files}
 use Rattle.outside_io.specs.Outside.{Around, HasCauses, OnlyLooks, written_of}
 use Rattle.outside_io.specs.Sink.{appended, AppendsPart}
 use Rattle.outside_io.specs.World.{World, Contents}

@@ -9,11 +9,10 @@ use Rattle.log_run.specs.Fits.{LineFits}
 use Rattle.log_run.specs.Laws.{IsValidState}
 use Rattle.log_run.specs.States.{LogState, with_line}
 use Rattle.track_log.specs.declared.refusal.LogRefusal.{LogRefusal}
-use Rattle.track_log.specs.LogJob.{LogInput}
 use Rattle.track_log.specs.Taking.{FitsTested}
 use Rattle.track_measure.specs.MeasureLines.{shape_of, measure_of_line}
 use Rattle.track_measure.specs.Texts.{text_of_told}
-use Rattle.track_measure.specs.Headline.{IsToldOf, text_told}
+use Rattle.track_measure.specs.Headline.{IsToldOf}
 
 -- where it is so, a line that fits leaves the shape of the mesh
 abbrev pub KeepsShape : Mesh → LogLine → Bool → Type 0

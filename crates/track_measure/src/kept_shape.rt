@@ -30,8 +30,6 @@ pub(crate) fn line_keeps_shape<S: Surface>(
 {
     match line {
         LogLine::Did(change) => edit_keeps_shape(alloc, mesh, change),
-        LogLine::Vertices(_) => Ok(false),
-        LogLine::Faces(_) => Ok(false),
         LogLine::Close { kept } => Ok(*kept),
         _ => Ok(true),
     }

@@ -1,7 +1,6 @@
 use Rattle.std.proofs.Common.{subst}
 use Rattle.std.proofs.lemmas.Result.{err_from_is_err_and}
 use Rattle.track_input.specs.Named.{log_names}
-use Rattle.track_log.specs.declared.PreparedLog.TheVariants as prepared
 use Rattle.track_log.specs.Preparing.{IsPrepared}
 use Rattle.track_measure.proofs.Whole.{measures_stopped, measures_refused, measures_taken}
 use Rattle.track_measure.proofs.command.measure.Goals as goal
