@@ -1,13 +1,14 @@
 #!/usr/bin/env python3
 """Measures, proves and replays the logs of random jobs, whole and spoilt, beside another program.
 
-Jobs are made as random_jobs.py makes them, and tracked by the other program; each log is measured and proved by both as it is, and as a log
-of version 3, which gives other ids here and there. Both are spoilt then: a line is doubled, left out, exchanged with the next, or cut short,
-or a number is raised by one, or ids are spoilt, at a random place; and the proof of the whole log is verified with each of these logs.
-Compared are status and output; a log that one of the two does not end in time is not compared. The program replays each log too: with the
-status of `measure`, and a whole log, also of version 3, to the meshes that the other program stored where it tracked the job. The reference neither proves nor verifies: beside it logs of small jobs are measured and replayed alone. The last lines
-count statuses, motions that were proved and verified alike, meshes that were replayed, and runs alike; at a difference the log is kept and
-the exit status is 1.
+Jobs are made as random_jobs.py makes them, and tracked by the other program; each log is measured and proved by both as it is, and as a
+log of version 3, which gives other ids here and there. Both are spoilt then: a line is doubled, left out, exchanged with the next, or cut
+short, or a number is raised by one, or ids are spoilt, at a random place; and the proof of the whole log is verified with each of these
+logs. Compared are status and output; a log that one of the two does not end in time is not compared. The program replays each log too:
+with the status of `measure`, and a whole log, also of version 3, to the meshes that the other program stored where it tracked the job.
+The reference neither proves nor verifies: beside it logs of small jobs are measured and replayed alone. The last lines count statuses,
+motions that were proved and verified alike, meshes that were replayed, and runs alike; at a difference the log is kept and the exit
+status is 1.
 """
 
 import os
