@@ -1,6 +1,6 @@
 -- The half-edges that leave each vertex, as a contract sees them.
-use Rattle.std.specs.Prelude.{ℕ, ◌≡◌, ◌≢◌, ◌^◌, ◌<◌, ◌==◌, cond, nat_lt, List, [], ◌∷◌, map, not, slice_index_or, Option, Some, None}
-use Rattle.std.specs.List.{filter}
+use Rattle.std.specs.Prelude.{ℕ, ◌≡◌, ◌≢◌, ◌^◌, ◌<◌, ◌==◌, cond, nat_lt, Bool, List, [], ◌∷◌, map, not, slice_index_or, Option, Some, None}
+use Rattle.std.specs.List.{filter, list_any}
 use Rattle.std.specs.Ordering.{nat_cmp}
 use Rattle.std.specs.FinMap as finite
 use Rattle.half_mesh.specs.declared.row.Vertex.{Vertex}
@@ -56,6 +56,10 @@ without_spoke fan f = record fan { spokes = without f fan.spokes }
 -- the spokes to a vertex
 abbrev pub spokes_to : ℕ → List Spoke → List Spoke
 spokes_to v spokes = filter (λ s. s.to == v) spokes
+
+-- whether some spoke runs to a vertex
+abbrev pub has_head : List Spoke → ℕ → Bool
+has_head spokes w = list_any (λ s. s.to == w) spokes
 
 -- the faces of spokes
 abbrev pub faces_of : List Spoke → List ℕ

@@ -3,7 +3,7 @@ ghost use Rattle.std.specs.Prelude.{◌≡◌, ◌≢◌, None, ◌≤◌, ◌<�
 ghost use Rattle.std.specs.Option.{option_map};
 ghost use Rattle.std.specs.FinMap as map;
 ghost use Rattle.mesh_base.specs.Sides.{above};
-ghost use Rattle.half_mesh.specs.Fans.{Fan, Side, side_at, with_spoke, without_spoke, put_spoke, spokes_at, spokes_to, faces_of, bare_fan, IsNewest, IsOutside, CanRelink};
+ghost use Rattle.half_mesh.specs.Fans.{Fan, Side, side_at, with_spoke, without_spoke, put_spoke, spokes_at, spokes_to, has_head, faces_of, bare_fan, IsNewest, IsOutside, CanRelink};
 ghost use Rattle.half_mesh.specs.FanChanges.{with_fans, with_side, ChangesFan, KeepsRest, KeepsSides, KeepsOtherSides, KeepsSidesOutside};
 ghost use Rattle.half_mesh.specs.Walks.{walk, spoke_of, side_of, key_before, last_newer, IsLinkedIn, Joins, Resets};
 ghost use Rattle.slab.specs.Slab.{get, slab_len};
@@ -16,7 +16,7 @@ use crate::row::{Row, Vertex};
 use crate::tables::put_corners_above;
 use grid_base::NoMemory;
 use id_table::Rows;
-use mesh_base::{FaceId, VertexId};
+use mesh_base::{FaceId, VertexId, put_above};
 use std::alloc::Global;
 use std::marker::Model;
 
@@ -390,6 +390,17 @@ impl Fans {
             None => Ok(()),
         }
     }
+
+    /// Puts the vertices above `v` to which half-edges run from it at the end of the list.
+    pub(crate) fn put_heads(&self, v: VertexId, into: &mut Vec<VertexId>) -> Result<(), NoMemory>
+        ensures { IsOk result → AddsIdsAbove v into.old.items into.new.items
+            (has_head (spokes_at self.now.woven.fans v)) }
+    {
+        match self.rows.get(v.0) {
+            Some(row) => put_linked_heads(&self.halves, row.first, row.count, v, into),
+            None => Ok(()),
+        }
+    }
 }
 
 /// How many of so many half-edges, linked from a key on, run to `v`.
@@ -515,6 +526,30 @@ fn put_linked(
             return Ok(());
         };
         put_corners_above(fans, keys, half.face, v, into)?;
+        at = half.after;
+        left -= 1;
+    }
+    Ok(())
+}
+
+/// Puts the vertices above `v` to which so many half-edges, linked from a key on, run at the end of the list.
+fn put_linked_heads(
+    halves: &Halves,
+    first: u32,
+    count: u32,
+    v: VertexId,
+    into: &mut Vec<VertexId>,
+) -> Result<(), NoMemory>
+    ensures { let spokes = map_list spoke_of (walk halves.now count first) in
+        IsOk result → AddsIdsAbove v into.old.items into.new.items (has_head spokes) }
+{
+    let mut at = first;
+    let mut left = count;
+    while left > 0 {
+        let Some(half) = halves.get(at).copied() else {
+            return Ok(());
+        };
+        put_above(into, v, VertexId(half.to))?;
         at = half.after;
         left -= 1;
     }

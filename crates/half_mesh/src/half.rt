@@ -297,6 +297,11 @@ impl Surface for HalfMesh {
         self.now.neighbours_above(v, into)
     }
 
+    /// Looks at the half-edges that leave `v`.
+    fn heads_above(&self, v: VertexId, into: &mut Vec<VertexId>) -> Result<(), NoMemory> {
+        self.now.heads_above(v, into)
+    }
+
     fn faces_near(&self, at: Extent, into: &mut Vec<FaceId>) -> Result<(), NoMemory> {
         faces_near_of_all(&self.now, &at, into)
     }

@@ -5,7 +5,7 @@ ghost use Rattle.std.specs.Option.{option_map};
 ghost use Rattle.std.specs.FinMap as map;
 ghost use Rattle.mesh_base.specs.Mesh.{IsSound, IsLiveVertex, IsLiveFace, AreLive, AreDifferent, is_solid};
 ghost use Rattle.mesh_base.specs.Changes.{corner_list, with_vertex, with_face, without_face, without_vertex, with_point, with_solid};
-ghost use Rattle.mesh_base.specs.Sides.{above, faces_at, faces_running, runs};
+ghost use Rattle.mesh_base.specs.Sides.{IsClosed, above, faces_at, faces_running, runs};
 ghost use Rattle.mesh_base.specs.Given.{mesh_under, listed_mesh};
 ghost use Rattle.mesh_shape.specs.Numbered.{numbered};
 ghost use Rattle.mesh_shape.specs.Shape.{HaveGoodShape};
@@ -329,6 +329,21 @@ impl Tables {
     {
         into.clear();
         if let Err(e) = self.fans.put_neighbours(&self.keys, v, into) {
+            into.clear();
+            return Err(e);
+        }
+        put_rising(into);
+        Ok(())
+    }
+
+    pub(crate) fn heads_above(&self, v: VertexId, into: &mut Vec<VertexId>) -> Result<(), NoMemory>
+        requires sound { IsSound self.now.state.mesh }
+        requires closed { IsClosed self.now.state.mesh }
+        ensures ok { OnOk result (into.new.items ≡ neighbours_above self.now.state.mesh v) }
+        ensures err { OnErr result (into.new.items ≡ []) }
+    {
+        into.clear();
+        if let Err(e) = self.fans.put_heads(v, into) {
             into.clear();
             return Err(e);
         }

@@ -15,7 +15,7 @@ use Rattle.std.proofs.lemmas.Bool.Decides.{nat_tests}
 use Rattle.std.specs.Ordering.{nat_cmp, is_lt, eq_by_cmp}
 use Rattle.mesh_base.specs.declared.ids.Corners.{Corners}
 use Rattle.mesh_base.specs.Mesh.{Mesh, IsSound, HasCorners}
-use Rattle.mesh_base.specs.Sides.{above, follows, has_corner, faces_at, runs, IsEdge}
+use Rattle.mesh_base.specs.Sides.{above, follows, has_corner, faces_at, runs, IsEdge, IsClosed}
 use Rattle.mesh_base.specs.Pairs.{edges, is_edge, neighbours_above}
 use Rattle.mesh_base.specs.SideList.{has_id, are_neighbours, neighbours_in}
 use Rattle.mesh_base.proofs.Tests.{and_first, and_second, and_both, or_first, or_second, or_either, both_ways}
@@ -176,10 +176,10 @@ every_near m v P sound h w less edge =
     (all_filter of_edge (λ b. nat_lt v b) ids (all_filter P (λ b. is_edge m v b) (above v ids) h))
     (edge_live m v w sound edge).1 (lt-ltb v w less) (lt-ltb 0 (runs m v w + runs m w v) edge)
 
--- ids in order that are those above v seen beside it in faces that show each edge at v
-pub ids_are_neighbours : (m : Mesh) (v : ℕ) (faces ids : List ℕ) → IsSound m → ((w : ℕ) → IsEdge m v w → list_any (seen m v w) faces ≡ true)
-    → IsStrictlySortedBy nat_cmp ids → ((w : ℕ) → has_id ids w ≡ (nat_lt v w && list_any (seen m v w) faces)) → ids ≡ neighbours_above m v
-ids_are_neighbours m v faces ids sound shown in_order is = btree_set_from_contains nat_cmp_total (record { keys = ids }) (record { keys = neighbours_above m v }) in_order (near_sorted m v) same exact_unsigned
+-- ids in order that are those above v that a test names, which names those that share an edge with v
+ids_are_near : (m : Mesh) (v : ℕ) (named : ℕ → Bool) (ids : List ℕ) → IsSound m → ((w : ℕ) → named w ≡ true → IsEdge m v w) → ((w : ℕ) → IsEdge m v w → named w ≡ true)
+    → IsStrictlySortedBy nat_cmp ids → ((w : ℕ) → has_id ids w ≡ (nat_lt v w && named w)) → ids ≡ neighbours_above m v
+ids_are_near m v named ids sound beside shown in_order is = btree_set_from_contains nat_cmp_total (record { keys = ids }) (record { keys = neighbours_above m v }) in_order (near_sorted m v) same exact_unsigned
   where
     listed : (w : ℕ) → Contains (neighbours_above m v) w → IsNear m v w
     listed w h = All-contains (IsNear m v) (neighbours_above m v) w (All-from_recursion (IsNear m v) (neighbours_above m v) (listed_near m v)) h
@@ -190,12 +190,26 @@ ids_are_neighbours m v faces ids sound shown in_order is = btree_set_from_contai
     same : (w : ℕ) → has_id ids w ≡ has_id (neighbours_above m v) w
     same w = both_ways (has_id ids w) (has_id (neighbours_above m v) w)
         (λ h.
-        let both : (nat_lt v w && list_any (seen m v w) faces) ≡ true = sym (is w) ∙ h in
-        let face = any_found (seen m v w) faces (and_second (nat_lt v w) _ both) in
-        id_found (neighbours_above m v) w (every w (ltb-true v w (and_first (nat_lt v w) _ both)) (seen_edge m face.0 v w face.1)))
+        let both : (nat_lt v w && named w) ≡ true = sym (is w) ∙ h in
+        id_found (neighbours_above m v) w (every w (ltb-true v w (and_first (nat_lt v w) _ both)) (beside w (and_second (nat_lt v w) _ both))))
         (λ h.
         let near = listed w (id_held (neighbours_above m v) w h) in
         is w ∙ and_both (nat_lt v w) _ (lt-ltb v w near.0) (shown w near.1))
+
+-- ids in order that are those above v seen beside it in faces that show each edge at v
+pub ids_are_neighbours : (m : Mesh) (v : ℕ) (faces ids : List ℕ) → IsSound m → ((w : ℕ) → IsEdge m v w → list_any (seen m v w) faces ≡ true)
+    → IsStrictlySortedBy nat_cmp ids → ((w : ℕ) → has_id ids w ≡ (nat_lt v w && list_any (seen m v w) faces)) → ids ≡ neighbours_above m v
+ids_are_neighbours m v faces ids sound shown in_order is =
+    ids_are_near m v (λ w. list_any (seen m v w) faces) ids sound
+    (λ w h. let face = any_found (seen m v w) faces h in seen_edge m face.0 v w face.1) shown in_order is
+
+-- in a closed mesh, ids in order that are those above v to which a face runs from v
+pub heads_are_neighbours : (m : Mesh) (v : ℕ) (ids : List ℕ) → IsSound m → IsClosed m
+    → IsStrictlySortedBy nat_cmp ids → ((w : ℕ) → has_id ids w ≡ (nat_lt v w && nat_lt 0 (runs m v w))) → ids ≡ neighbours_above m v
+heads_are_neighbours m v ids sound closed in_order is =
+    ids_are_near m v (λ w. nat_lt 0 (runs m v w)) ids sound
+    (λ w h. let some = ltb-true 0 (runs m v w) h in omega (arith, some))
+    (λ w edge. let same = closed v w in lt-ltb 0 (runs m v w) (omega (arith, same, edge))) in_order is
 
 -- ---- all edges
 -- the edges from a vertex to those above it

@@ -1,7 +1,8 @@
 //! The edges of a mesh in order, found along the sides of its faces.
-ghost use Rattle.std.specs.Prelude.{◌≡◌, ℕ, ◌==◌, ◌&&◌, ◌||◌, ◌++◌, map, IsOk, IfOk};
+ghost use Rattle.std.specs.Prelude.{◌≡◌, ℕ, ◌==◌, ◌&&◌, ◌||◌, ◌++◌, map, IsOk, IfOk, OnOk, IsTrue};
 ghost use Rattle.std.specs.List.Sorted.{IsStrictlySortedBy};
-ghost use Rattle.mesh_base.specs.Pairs.{edges};
+ghost use Rattle.mesh_base.specs.Sides.{IsClosed};
+ghost use Rattle.mesh_base.specs.Pairs.{edges, neighbours_above};
 ghost use Rattle.mesh_base.specs.SideList.{edge_cmp, has_side, are_neighbours, neighbours_at};
 ghost use Rattle.mesh_base.specs.SideList.{side_rank, HasSmallEnds, HasSidesOf, AddsSides};
 
@@ -106,10 +107,26 @@ fn put_edges(found: &mut Sides, v: VertexId, others: &[VertexId]) -> Result<(), 
     Ok(())
 }
 
-/// The edges, each by its smaller and its larger end, in order of the smaller and then of the larger. Asks each vertex for its
-/// neighbours, so it takes time in proportion to the faces where `neighbours_above` takes time in proportion to the faces at the
-/// vertex, and in proportion to the vertices times the faces where that looks at each face.
-pub fn edges_in_order<S: Surface>(alloc: Global, mesh: &S) -> Result<Edges, NoMemory>
+/// Sets `into` to the vertices above `v` that share an edge with it, by rising id; of a mesh that is told to be closed by its sides alone.
+fn neighbours_of<S: Surface>(
+    mesh: &S,
+    closed: bool,
+    v: VertexId,
+    into: &mut Vec<VertexId>,
+) -> Result<(), NoMemory>
+    requires { IsTrue closed → IsClosed (S.mesh mesh.now) }
+    ensures { OnOk result (into.new.items ≡ neighbours_above (S.mesh mesh.now) v) }
+{
+    if closed {
+        mesh.heads_above(v, into)
+    } else {
+        mesh.neighbours_above(v, into)
+    }
+}
+
+/// The edges in order; of a mesh that is told to be closed by its sides alone.
+fn edges_by<S: Surface>(alloc: Global, mesh: &S, closed: bool) -> Result<Edges, NoMemory>
+    requires { IsTrue closed → IsClosed (S.mesh mesh.now) }
     ensures { IfOk result (λ found. found ≡ edges (S.mesh mesh.now)) }
 {
     // Room for the edges of a closed mesh is taken at once: three halves of its faces.
@@ -117,9 +134,26 @@ pub fn edges_in_order<S: Surface>(alloc: Global, mesh: &S) -> Result<Edges, NoMe
     let mut others: Vec<VertexId> = Vec::new(alloc);
     let mut last = 0;
     while let Some(v) = mesh.vertex_after(last) {
-        mesh.neighbours_above(v, &mut others)?;
+        neighbours_of(mesh, closed, v, &mut others)?;
         put_edges(&mut found, v, others.as_slice())?;
         last = v.0;
     }
     Ok(Edges::from_vec(found))
+}
+
+/// The edges, each by its smaller and its larger end, in order of the smaller and then of the larger. Asks each vertex for its
+/// neighbours, so it takes time in proportion to the faces where `neighbours_above` takes time in proportion to the faces at the
+/// vertex, and in proportion to the vertices times the faces where that looks at each face. Refuses only where there is no memory.
+pub fn edges_in_order<S: Surface>(alloc: Global, mesh: &S) -> Result<Edges, NoMemory>
+    ensures { IfOk result (λ found. found ≡ edges (S.mesh mesh.now)) }
+{
+    edges_by(alloc, mesh, false)
+}
+
+/// The same of a closed mesh, by `heads_above`: in half the time.
+pub fn edges_of_closed<S: Surface>(alloc: Global, mesh: &S) -> Result<Edges, NoMemory>
+    requires { IsClosed (S.mesh mesh.now) }
+    ensures { IfOk result (λ found. found ≡ edges (S.mesh mesh.now)) }
+{
+    edges_by(alloc, mesh, true)
 }

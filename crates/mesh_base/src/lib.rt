@@ -17,14 +17,14 @@ mod surface;
 mod vertex_point;
 mod walk;
 
-pub use edges::{edges_in_order, sides_in_order};
+pub use edges::{edges_in_order, edges_of_closed, sides_in_order};
 pub use faults::{AddFault, ShapeFault, ShapeRefusal};
 pub use ids::{Corners, FaceId, PairName, VertexId};
 pub use limits::{Limits, Scale};
 pub use lists::{Edges, FaceIds, Ids, MeshLists, Points, Shifts, Triangles};
 pub use marks::Mark;
 pub use near::{FaceTable, faces_near_of_all, is_face_near};
-pub use neighbours::{neighbours_above_of_all, put_neighbours, put_rising};
+pub use neighbours::{neighbours_above_of_all, put_above, put_neighbours, put_rising};
 pub use refusals::{FileWord, UseWhy};
 pub use steps::{How, ShiftOf};
 pub use surface::Surface;

@@ -13,7 +13,7 @@ use crate::near::FaceTable;
 use grid_base::NoMemory;
 
 /// Puts an id at the end of the list, if it is above another.
-fn put_above(ids: &mut Vec<VertexId>, v: VertexId, w: VertexId) -> Result<(), NoMemory>
+pub fn put_above(ids: &mut Vec<VertexId>, v: VertexId, w: VertexId) -> Result<(), NoMemory>
     ensures { IsOk result → AddsIdsAbove v ids.old.items ids.new.items (λ x. w == x) }
 {
     if v.0 < w.0 {

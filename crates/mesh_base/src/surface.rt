@@ -2,7 +2,7 @@ ghost use Rattle.std.specs.Prelude.{◌≡◌, ◌≤◌, ◌<◌, ◌+◌, ℕ,
 ghost use Rattle.std.specs.Option.{option_map};
 ghost use Rattle.std.specs.FinMap as map;
 ghost use Rattle.mesh_base.specs.Mesh.{Mesh, IsSound, IsLiveVertex, IsLiveFace, is_solid};
-ghost use Rattle.mesh_base.specs.Sides.{above, runs, faces_running, faces_at};
+ghost use Rattle.mesh_base.specs.Sides.{IsClosed, above, runs, faces_running, faces_at};
 ghost use Rattle.mesh_base.specs.Changes.{corners_of, corner_list, with_vertex, with_face, without_face, without_vertex, with_point, with_solid, IsFresh, IsFullOfVertices, IsFullOfFaces};
 ghost use Rattle.mesh_base.specs.Kept.{BeginsWith, MarkHolds, StandsFor};
 ghost use Rattle.mesh_base.specs.Near.{faces_near};
@@ -88,6 +88,15 @@ pub trait Surface {
     fn neighbours_above(&self, v: VertexId, into: &mut Vec<VertexId>) -> Result<(), NoMemory>
         ensures ok { OnOk result (into.new.items ≡ neighbours_above (mesh self.now) v) }
         ensures err { OnErr result (into.new.items ≡ []) };
+
+    /// The same of a closed mesh: there a side leaves `v` for each of these vertices, so no other corner needs to be looked at.
+    fn heads_above(&self, v: VertexId, into: &mut Vec<VertexId>) -> Result<(), NoMemory>
+        requires { IsClosed (mesh self.now) }
+        ensures ok { OnOk result (into.new.items ≡ neighbours_above (mesh self.now) v) }
+        ensures err { OnErr result (into.new.items ≡ []) }
+    {
+        self.neighbours_above(v, into)
+    }
 
     /// Sets `into` to the faces near the extent, by rising id: those whose boxes, around the corners where they stand in
     /// half units, have a common point with it. Where memory is wanting, `into` is empty.

@@ -217,6 +217,10 @@ impl<B: Undoable> Surface for Journal<B> {
         self.inner.neighbours_above(v, into)
     }
 
+    fn heads_above(&self, v: VertexId, into: &mut Vec<VertexId>) -> Result<(), NoMemory> {
+        self.inner.heads_above(v, into)
+    }
+
     fn faces_near(&self, at: Extent, into: &mut Vec<FaceId>) -> Result<(), NoMemory> {
         match &self.boxes.grid {
             Some(grid) => near_in(self.alloc, self, grid, &at, into),

@@ -16,7 +16,7 @@ use crate::terms::PassTerms;
 use edit_base::{Asked, PassKind};
 use grid_base::{DEPTH_MAX, Point};
 use log_write::Listener;
-use mesh_base::{Surface, VertexId, edges_in_order};
+use mesh_base::{Surface, VertexId, edges_of_closed};
 use outside_io::Stop;
 use std::alloc::Global;
 
@@ -73,7 +73,7 @@ pub(crate) fn take_edges<S: Surface, O: Listener>(
     ensures { PassTells S.mesh S.kept O.around mesh outside
         (λ m. lines_from (exactly terms) m (map (ask_of terms.kind) (edges m))) result }
 {
-    let edges = edges_in_order(alloc, mesh)?;
+    let edges = edges_of_closed(alloc, mesh)?;
     let mut places = places_for(alloc, mesh, terms.kind)?;
     let mut count = no_edit();
     for e in edges.as_slice() {

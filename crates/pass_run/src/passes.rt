@@ -23,7 +23,7 @@ use edit_base::{Asked, PassKind};
 use grid_base::DEPTH_MAX;
 use log_text::LogLine;
 use log_write::Listener;
-use mesh_base::{Surface, edges_in_order};
+use mesh_base::{Surface, edges_of_closed};
 use outside_io::{Ends, Sink, Stop, TallyDesk};
 use std::alloc::Global;
 
@@ -184,7 +184,7 @@ fn take_pairs<S: Surface, O: Listener>(
     ensures { PassTells S.mesh S.kept O.around mesh outside
         (λ m. lines_from (exactly terms) m (candidates m terms.kind)) result }
 {
-    let edges = edges_in_order(alloc, mesh)?;
+    let edges = edges_of_closed(alloc, mesh)?;
     let edges = edges.as_slice();
     let middles = middles_of(alloc, mesh, edges)?;
     let middles = middles.as_slice();

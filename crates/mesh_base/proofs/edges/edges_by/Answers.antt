@@ -5,7 +5,7 @@ use Rattle.mesh_base.specs.Sides.{above}
 use Rattle.mesh_base.specs.Pairs.{neighbours_above}
 use Rattle.mesh_base.proofs.WalkSteps.{walk-start, above-step, above-end}
 use Rattle.mesh_base.proofs.NeighboursAbove.{edges_from, edges_by_ends}
-use Rattle.mesh_base.proofs.edges.edges_in_order.Goals as goal
+use Rattle.mesh_base.proofs.edges.edges_by.Goals as goal
 
 pub loop-v-init : goal.loop-v-init
 loop-v-init g c =
@@ -26,7 +26,7 @@ loop-v-preserved g c =
     let v = c.v.inside.0 in
     let found = c.loop-v.found.items in
     let rest = above-step m.points c.loop-v.last v (sym c.in-Some.ensures ∙ ap Some (sym c.v.view_is)) in
-    let row : c.as_slice.result.now ≡ neighbours_above m v = c.as_slice.ensures.value ∙ c.in_ok-neighbours_above.ensures.ok ∙ ap (neighbours_above m) (sym c.v.view_is) in
+    let row : c.as_slice.result.now ≡ neighbours_above m v = c.as_slice.ensures.value ∙ c.in_ok-neighbours_of.ensures ∙ ap (neighbours_above m) (sym c.v.view_is) in
     let tail = flat_map (edges_from m) (above v (map.keys m.points)) in
     ap (λ xs. xs ++ tail) (c.in_ok-put_edges.ensures refl ∙ ap (λ u. found ++ map_list (λ w. (u, w)) c.as_slice.result.now) (sym c.v.view_is) ∙ ap (λ ids. found ++ map_list (λ w. (v, w)) ids) row)
     ∙ append_assoc found (edges_from m v) tail

@@ -4,7 +4,7 @@ use Rattle.std.specs.FinMap as map
 use Rattle.mesh_base.specs.Sides.{above}
 use Rattle.mesh_base.specs.Pairs.{edges}
 use Rattle.mesh_base.proofs.NeighboursAbove.{edges_from}
-use Rattle.mesh_base.proofs.edges.edges_in_order.Given as goal
+use Rattle.mesh_base.proofs.edges.edges_by.Given as goal
 
 -- the edges found and those from the vertices above the last are all of them
 abbrev pub invariant-loop-v : goal.invariant-loop-v
