@@ -1,17 +1,16 @@
 -- A mesh whose vertices, or whose faces, take new ids in turn has them by other ids in the same order.
-use Rattle.std.proofs.Common.{◌≡◌, ℕ, ◌+◌, ◌<◌, ◌≤◌, ◌==◌, ◌&&◌, Bool, true, false, cond, T, List, [], ◌∷◌, map, IsSome, is_some, Some, refl, sym, ap, subst, ◌∙◌, arith, inl, inr}
+use Rattle.std.proofs.Common.{◌≡◌, ℕ, ◌<◌, ◌==◌, ◌&&◌, Bool, true, false, cond, T, List, [], ◌∷◌, map, IsSome, is_some, Some, refl, sym, ap, subst, ◌∙◌, inl, inr}
 use Rattle.std.specs.List.{AllByRecursion, filter}
 use Rattle.std.specs.Ordering.{nat_cmp, is_lt}
 use Rattle.std.specs.declared.cmp.Ordering.TheVariants.{Less, Equal, Greater}
 use Rattle.std.specs.Cmp.{unsigned_tied, nat_cmp_total}
 use Rattle.std.specs.FinMap as finite
-use Rattle.std.specs.FinMap.{FinMap, get-entries, get-from_entries, entries_sorted}
+use Rattle.std.specs.FinMap.{FinMap, get-from_entries, entries_sorted}
 use Rattle.std.specs.FinMap.Entries.{find, is_sorted, below_all}
 use Rattle.std.proofs.lemmas.Bool.{cases_Bool, eqb-true, ltb-true, lt-ltb, false≢true}
 use Rattle.grid_base.specs.declared.Point.{Point}
 use Rattle.mesh_base.specs.declared.Corners.{Corners}
-use Rattle.mesh_base.specs.Mesh.{Mesh, IsSound, IsLiveVertex, IsLiveFace, is_solid}
-use Rattle.mesh_base.specs.Valid.{IsValidSurface}
+use Rattle.mesh_base.specs.Mesh.{Mesh, IsSound, is_solid}
 use Rattle.mesh_base.proofs.Listed.{each_found}
 use Rattle.mesh_base.proofs.ListedPairs.{all_filtered}
 use Rattle.mesh_base.proofs.Ordered.{entries-of_sorted}

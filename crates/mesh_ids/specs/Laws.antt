@@ -30,3 +30,12 @@ IdsAreTakenBack =
     let named = with_vertex_ids numbered (finite.keys m.points) m.next_vertex in
     with_face_ids named (finite.keys m.faces) m.next_face
     ≡ record m { solid = finite.empty; limits = limits }
+
+-- a mesh stays as it is where its vertices take the ids that they have
+abbrev pub OwnVertexIdsChangeNothing : Type 0
+OwnVertexIdsChangeNothing =
+    (m : Mesh) → IsSound m → with_vertex_ids m (finite.keys m.points) m.next_vertex ≡ m
+
+-- and where its faces do
+abbrev pub OwnFaceIdsChangeNothing : Type 0
+OwnFaceIdsChangeNothing = (m : Mesh) → with_face_ids m (finite.keys m.faces) m.next_face ≡ m
