@@ -120,7 +120,10 @@ def take_faces(mesh, next_face, *ids):
     new = new_ids(mesh.faces, ids)
     mesh.take(mesh.points, {new[f]: corners for f, corners in mesh.faces.items()}, mesh.next_vertex, next_face)
 
-def new_ids(old, ids): return dict(zip(sorted(old), ids))
+def new_ids(old, ids):
+    if len(ids) != len(old) or any(v >= w for v, w in zip(ids, ids[1:])):
+        raise ValueError(f"new ids {ids} of {len(old)}")
+    return dict(zip(sorted(old), ids))
 
 CHANGES = {"split": split, "flip": flip, "collapse": collapse, "zip": join, "pinch": pinch, "vertices": take_vertices, "faces": take_faces}
 
