@@ -630,7 +630,7 @@ static void logs_of_ids(void)
     is("another tetrahedron", topo_new(four, 4, sides, 4, &t, &fault), TOPO_DONE);
     is("is dropped", (uint32_t)(topo_drop(&t, 1, &answer) == TOPO_DONE && answer.why == 0), 1);
     is("a log of no vertex", topo_begin_log(&t), TOPO_DONE);
-    is("tells which comes next", (uint32_t)tells("topo log 3\nmesh 0 0 0\nvertices 5\nfaces 5\n"), 1);
+    is("tells which comes next", (uint32_t)tells("topo log 3\nmesh 0 0 0\nvertices 5\nfaces 6\n"), 1);
     topo_free(&t);
 }
 
